@@ -1,0 +1,1 @@
+// Laws that any proof cites; they stand in specs/, and there is no code here.
