@@ -1,1 +1,77 @@
--- begun
+-- Chains of tests. A definition that answers by the first test that holds is a nested `cond`; an early return of the code meets it by
+-- one `hit` at the test that held and a `pass` at each test before it. `search (needs, chain)` finds them.
+use mathlib.Core.Path.{_≡_, refl, sym, _∙_, ap, subst}
+use mathlib.Core.Bool.{Bool, true, false, cond, not}
+use Prim.Native.Nat.{ℕ, _<_, _≤_}
+use lib.Dec.{ltb, leb, eqb}
+use borrow.Author.Tests.{lt-ltb, le-ltb, le-leb, lt-leb, eq-eqb, ne-eqb}
+
+module _ {A : Type 0} where
+  -- the test holds: the answer is its own
+  yes-cond : (b : Bool) (x y : A) → b ≡ true → x ≡ cond b x y
+  yes-cond b x y e = ap (λ (t : Bool). cond t x y) (sym e)
+
+  -- the test fails: the answer is the next one's
+  no-cond : (b : Bool) (v x y : A) → b ≡ false → v ≡ y → v ≡ cond b x y
+  no-cond b v x y e p = p ∙ ap (λ (t : Bool). cond t x y) (sym e)
+
+  -- a flag r that a call handed over, equal to the test b, held
+  pub hit : (r b : Bool) (x y : A) → r ≡ b → r ≡ true → x ≡ cond b x y
+  hit r b x y q e = yes-cond b x y (sym q ∙ e)
+
+  -- a flag r, equal to the test b, failed
+  pub pass : (r b : Bool) (v x y : A) → r ≡ b → r ≡ false → v ≡ y → v ≡ cond b x y
+  pass r b v x y q e p = no-cond b v x y (sym q ∙ e) p
+
+  -- a below b, tested
+  pub hit-lt : (a b : ℕ) (x y : A) → a < b → x ≡ cond (ltb a b) x y
+  hit-lt a b x y h = yes-cond (ltb a b) x y (lt-ltb a b h)
+
+  pub pass-lt : (a b : ℕ) (v x y : A) → b ≤ a → v ≡ y → v ≡ cond (ltb a b) x y
+  pass-lt a b v x y h p = no-cond (ltb a b) v x y (le-ltb a b h) p
+
+  -- a at most b, tested
+  pub hit-le : (a b : ℕ) (x y : A) → a ≤ b → x ≡ cond (leb a b) x y
+  hit-le a b x y h = yes-cond (leb a b) x y (le-leb a b h)
+
+  pub pass-le : (a b : ℕ) (v x y : A) → b < a → v ≡ y → v ≡ cond (leb a b) x y
+  pass-le a b v x y h p = no-cond (leb a b) v x y (lt-leb a b h) p
+
+  -- a equal to b, tested
+  pub hit-eq : (a b : ℕ) (x y : A) → a ≡ b → x ≡ cond (eqb a b) x y
+  hit-eq a b x y h = yes-cond (eqb a b) x y (eq-eqb a b h)
+
+  pub pass-eq : (a b : ℕ) (v x y : A) → (a ≡ b → ⊥) → v ≡ y → v ≡ cond (eqb a b) x y
+  pass-eq a b v x y h p = no-cond (eqb a b) v x y (ne-eqb a b h) p
+
+  -- a different from b, tested
+  pub hit-ne : (a b : ℕ) (x y : A) → (a ≡ b → ⊥) → x ≡ cond (not (eqb a b)) x y
+  hit-ne a b x y h = yes-cond (not (eqb a b)) x y (ap not (ne-eqb a b h))
+
+  pub pass-ne : (a b : ℕ) (v x y : A) → a ≡ b → v ≡ y → v ≡ cond (not (eqb a b)) x y
+  pass-ne a b v x y h p = no-cond (not (eqb a b)) v x y (ap not (eq-eqb a b h)) p
+
+-- A test of a number r that a call handed over is a test of what the call says r is.
+pub lt-of : (a b r : ℕ) → r ≡ b → a < r → a < b
+lt-of a b r e h = subst (λ (k : ℕ). a < k) e h
+
+pub le-of : (a b r : ℕ) → r ≡ b → a ≤ r → a ≤ b
+le-of a b r e h = subst (λ (k : ℕ). a ≤ k) e h
+
+pub of-lt : (a b r : ℕ) → r ≡ b → r < a → b < a
+of-lt a b r e h = subst (λ (k : ℕ). k < a) e h
+
+pub of-le : (a b r : ℕ) → r ≡ b → r ≤ a → b ≤ a
+of-le a b r e h = subst (λ (k : ℕ). k ≤ a) e h
+
+pub of-eq : (a b r : ℕ) → r ≡ b → r ≡ a → b ≡ a
+of-eq a b r e h = sym e ∙ h
+
+pub of-ne : (a b r : ℕ) → r ≡ b → (r ≡ a → ⊥) → b ≡ a → ⊥
+of-ne a b r e h q = h (e ∙ q)
+
+-- every law of a chain, for `search`
+pub ruleset chain = (hit, pass, hit-lt, pass-lt, hit-le, pass-le, hit-eq, pass-eq, hit-ne, pass-ne)
+
+-- the laws that carry a test over to what a call's number is
+pub ruleset carried = (lt-of, le-of, of-lt, of-le, of-eq, of-ne)

@@ -1,0 +1,27 @@
+-- `image::counts::incomplete`: rule 20's tests, in its order.
+use borrow.Author.Needs.{needs}
+use Rattle.laws.specs.Chain.{chain}
+use Rattle.image.specs.Loaded.{incomplete}
+use Rattle.image.proofs.counts.incomplete.Statement.{statement}
+use Rattle.image.proofs.counts.incomplete.Tie as tie
+
+pub incomplete-spec : {M : Type 1} → statement M
+unfolding incomplete
+incomplete-spec =
+    tie.close
+    (tie.spec
+    (λ c κs. search needs)
+    (λ c. search (needs, chain) depth 40)
+    (λ c κs. search needs)
+    (λ c. search (needs, chain) depth 40)
+    (λ c κs. search needs)
+    (λ c. search (needs, chain) depth 40)
+    (λ c κs. search needs)
+    (λ c. search (needs, chain) depth 40)
+    (λ c κs. search needs)
+    (λ c. search (needs, chain) depth 40)
+    (λ c κs. search needs)
+    (λ c. search (needs, chain) depth 40)
+    (λ c κs. search needs)
+    (λ c. search (needs, chain) depth 40)
+    (λ c. search (needs, chain) depth 40))

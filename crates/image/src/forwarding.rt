@@ -1,0 +1,44 @@
+// L2 Forwarding, block 08 (the manual's table 13).
+use crate::bits::field;
+
+ghost use mathlib.Core.Path.{_≡_};
+ghost use Prim.Native.Nat.{_<_};
+ghost use Rattle.image.specs.Layout.{Held};
+ghost use Rattle.image.specs.Fields.{bcDomain, reachPort, flDomain, vlanPmap};
+
+const START: usize = 11354;
+
+const SIZE: usize = 2;
+
+// BC_DOMAIN, 63:59
+pub fn bc_domain(image: &[u32], i: usize) -> u64
+    requires { ⌜ Held 3 i (now image) ⌝ }
+    ensures { λ r. ⌜ (r ≡ bcDomain (now (image .entry)) i) × (r < 32) ⌝ }
+{
+    field(image, START, SIZE, i, 63, 59)
+}
+
+// REACH_PORT, 58:54
+pub fn reach_port(image: &[u32], i: usize) -> u64
+    requires { ⌜ Held 3 i (now image) ⌝ }
+    ensures { λ r. ⌜ (r ≡ reachPort (now (image .entry)) i) × (r < 32) ⌝ }
+{
+    field(image, START, SIZE, i, 58, 54)
+}
+
+// FL_DOMAIN, 53:49
+pub fn fl_domain(image: &[u32], i: usize) -> u64
+    requires { ⌜ Held 3 i (now image) ⌝ }
+    ensures { λ r. ⌜ (r ≡ flDomain (now (image .entry)) i) × (r < 32) ⌝ }
+{
+    field(image, START, SIZE, i, 53, 49)
+}
+
+// VLAN_PMAP(j), three bits up from 25 + 3j
+pub fn vlan_pmap(image: &[u32], i: usize, j: usize) -> u64
+    requires { ⌜ Held 3 i (now image) ⌝ }
+    requires { ⌜ j < 8 ⌝ }
+    ensures { λ r. ⌜ (r ≡ vlanPmap (now (image .entry)) i j) × (r < 8) ⌝ }
+{
+    field(image, START, SIZE, i, 27 + 3 * j, 25 + 3 * j)
+}

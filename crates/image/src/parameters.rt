@@ -1,0 +1,33 @@
+// L2 Lookup Parameters, block 0D, and L2 Forwarding Parameters, block 0E (the manual's tables 18 and 19): one entry each.
+use crate::bits::field;
+use crate::counts::count;
+
+ghost use mathlib.Core.Path.{_≡_};
+ghost use Prim.Native.Nat.{_<_, _≤_};
+ghost use lib.ListN.{length};
+ghost use Rattle.image.specs.Layout.{Held, imageWords, countOf};
+ghost use Rattle.image.specs.Fields.{sharedLearn, partSpc};
+
+const LOOKUP_START: usize = 11415;
+
+const FORWARDING_START: usize = 11416;
+
+// SHARED_LEARN, bit 5; an absent table means clear, whatever its word holds
+pub fn shared_learn(image: &[u32]) -> u64
+    requires { ⌜ (imageWords ≤ length (now image)) × (countOf (now image) 5 ≤ 1) ⌝ }
+    ensures { λ r. ⌜ (r ≡ sharedLearn (now (image .entry))) × (r < 2) ⌝ }
+{
+    if count(image, 5) == 0 {
+        return 0;
+    }
+    field(image, LOOKUP_START, 1, 0, 5, 5)
+}
+
+// PART_SPC(j), ten bits up from 13 + 10j
+pub fn part_spc(image: &[u32], j: usize) -> u64
+    requires { ⌜ Held 6 0 (now image) ⌝ }
+    requires { ⌜ j < 8 ⌝ }
+    ensures { λ r. ⌜ (r ≡ partSpc (now (image .entry)) j) × (r < 1024) ⌝ }
+{
+    field(image, FORWARDING_START, 3, 0, 22 + 10 * j, 13 + 10 * j)
+}

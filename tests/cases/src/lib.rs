@@ -1,0 +1,19 @@
+//! Cases on which two renderings of document 01 are compared: named, at boundaries, and seeded.
+//! The generators are a library, so that a test that links another program can use them too.
+
+pub mod boundaries;
+pub mod boundary_calls;
+pub mod build;
+pub mod case;
+pub mod check;
+pub mod damage;
+pub mod edit;
+pub mod files;
+pub mod generate;
+pub mod named_calls;
+pub mod named_frames;
+pub mod named_program;
+pub mod named_streams;
+pub mod properties;
+pub mod rng;
+pub mod tally;

@@ -1,0 +1,103 @@
+//! The image: the first 11,456 words of a lent buffer, and where everything stands in it.
+//! Document 01, "The stream", last paragraph: entries, nine counts, the mark, zeros.
+
+use crate::rules;
+use crate::tables::{read_field, Field, Table, ROWS};
+
+/// Words of the image; a buffer's words beyond are never written.
+pub const IMAGE_WORDS: usize = 11_456;
+
+/// The nine counts stand behind the entries, in ascending block ID.
+pub const FIRST_COUNT: usize = 11_430;
+
+/// The mark stands behind the counts.
+pub const MARK: usize = FIRST_COUNT + ROWS.len();
+
+/// The mark of a loaded image; any other word is "not marked".
+pub const LOADED: u32 = 1;
+
+/// Refusal 31 asks this.
+pub fn too_short(image: &[u32]) -> bool {
+    image.len() < IMAGE_WORDS
+}
+
+/// All zero; the rest of the buffer is left.
+pub fn make_zero(image: &mut [u32]) {
+    for word in &mut image[..IMAGE_WORDS] {
+        *word = 0;
+    }
+}
+
+/// Where a table's entries begin.
+pub fn start_of(table: Table) -> usize {
+    let mut start = 0;
+    for row in &ROWS[..table.place()] {
+        start += row.words * row.most;
+    }
+    start
+}
+
+/// Where a table's count stands.
+pub fn count_place(table: Table) -> usize {
+    FIRST_COUNT + table.place()
+}
+
+/// How many entries of a table the image says it holds.
+pub fn count(image: &[u32], table: Table) -> usize {
+    image[count_place(table)] as usize
+}
+
+/// Some count is above its table's most entries.
+pub fn some_count_above_limit(image: &[u32]) -> bool {
+    ROWS.iter().any(|row| count(image, row.table) > row.most)
+}
+
+/// Marked, and with counts that a load can give. Where this fails, frames are refused with 30.
+pub fn is_loaded(image: &[u32]) -> bool {
+    image[MARK] == LOADED && !some_count_above_limit(image) && !rules::rule_20_broken(image)
+}
+
+/// The words of one entry, low word first.
+pub fn entry(image: &[u32], table: Table, number: usize) -> &[u32] {
+    let first = start_of(table) + number * table.words();
+    &image[first..first + table.words()]
+}
+
+/// A field of one entry.
+pub fn value(image: &[u32], field: Field, number: usize) -> u64 {
+    read_field(entry(image, field.table, number), field)
+}
+
+/// A field of every entry that is loaded.
+pub fn values(image: &[u32], field: Field) -> Vec<u64> {
+    let loaded = 0..count(image, field.table);
+    loaded.map(|number| value(image, field, number)).collect()
+}
+
+/// The image that a load of these lists gives, with its mark: used to say what is expected.
+pub fn of_lists(lists: &crate::stream::Lists) -> Vec<u32> {
+    let mut image = vec![0; IMAGE_WORDS];
+    for row in &ROWS {
+        let entries = lists.of(row.table);
+        image[count_place(row.table)] = entries.len() as u32;
+        for (number, words) in entries.iter().enumerate() {
+            let first = start_of(row.table) + number * row.words;
+            image[first..first + row.words].copy_from_slice(words);
+        }
+    }
+    image[MARK] = LOADED;
+    image
+}
+
+#[cfg(test)]
+mod tests {
+    use super::*;
+
+    #[test]
+    fn entries_end_where_the_counts_begin() {
+        let last = Table::XmiiModeParameters;
+        assert_eq!(start_of(last) + last.words() * last.most(), FIRST_COUNT);
+        assert_eq!(MARK, 11_439);
+        assert_eq!(IMAGE_WORDS - FIRST_COUNT, 26);
+    }
+}

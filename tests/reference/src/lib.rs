@@ -1,0 +1,15 @@
+//! The independent second program: document 01 rendered plainly, one room a subject.
+//! Written from documents 01 and 001 and the decisions alone; slow where slow is plain.
+
+pub mod crc;
+pub mod image;
+pub mod judge;
+pub mod k;
+pub mod ledger;
+pub mod list;
+pub mod load;
+pub mod program;
+pub mod rules;
+pub mod stream;
+pub mod tables;
+pub mod tile;
