@@ -20,15 +20,18 @@ aboveFrom k (r ∷ rs) image = cond (ltb (r .most) (countOf image k)) true (abov
 unfoldable pub overLimit : List ℕ → Bool
 overLimit image = aboveFrom 0 rows image
 
+-- "0E, 11 or 4E not 1"
+abbrev pub notSingle : List ℕ → Bool
+notSingle image =
+    cond (not (eqb (countOf image 6) 1)) true
+    (cond (not (eqb (countOf image 7) 1)) true (cond (not (eqb (countOf image 8) 1)) true false))
+
 -- rule 20: "06 or 07 has no entry, or 08 not 13, 09 not 5, 0E, 11 or 4E not 1"
 unfoldable pub incomplete : List ℕ → Bool
 incomplete image =
     cond (eqb (countOf image 1) 0) true
     (cond (eqb (countOf image 2) 0) true
-    (cond (not (eqb (countOf image 3) 13)) true
-    (cond (not (eqb (countOf image 4) 5)) true
-    (cond (not (eqb (countOf image 6) 1)) true
-    (cond (not (eqb (countOf image 7) 1)) true (cond (not (eqb (countOf image 8) 1)) true false))))))
+    (cond (not (eqb (countOf image 3) 13)) true (cond (not (eqb (countOf image 4) 5)) true (notSingle image))))
 
 -- 30 for a frame: "image not marked loaded, or a count above its limit or such as rule 20 refuses"
 unfoldable pub notLoaded : List ℕ → Bool

@@ -1,10 +1,12 @@
 // The counts and the mark behind the entries, and the tests behind refusals 31 and 30.
 ghost use mathlib.Core.Path.{_≡_};
 ghost use Prim.Native.Nat.{_<_, _≤_};
-ghost use lib.ListN.{length};
+ghost use lib.ListN.{length, drop};
+ghost use mathlib.Core.Bool.{not};
 ghost use lib.Dec.{ltb, eqb};
 ghost use Rattle.image.specs.Layout.{imageWords, countOf, markOf};
-ghost use Rattle.image.specs.Loaded.{tooShort, overLimit, incomplete, notLoaded};
+ghost use Rattle.image.specs.Rows.{rows};
+ghost use Rattle.image.specs.Loaded.{tooShort, aboveFrom, overLimit, notSingle, incomplete, notLoaded};
 
 // The image's words: 11,430 of entries, 26 for counts and state.
 pub const IMAGE_WORDS: usize = 11456;
@@ -43,11 +45,39 @@ fn counts(image: &[u32], k: usize, n: usize) -> bool
     count(image, k) == n
 }
 
+// Is the count of table k another number than n?
+fn differs(image: &[u32], k: usize, n: usize) -> bool
+    requires { ⌜ (imageWords ≤ length (now image)) × (k < 9) ⌝ }
+    ensures { λ r. ⌜ r ≡ not (eqb (countOf (now (image .entry)) k) n) ⌝ }
+{
+    count(image, k) != n
+}
+
 // 31
 pub fn too_short(image: &[u32]) -> bool
     ensures { λ r. ⌜ r ≡ tooShort (now (image .entry)) ⌝ }
 {
     image.len() < IMAGE_WORDS
+}
+
+// Some count of the tables that hold one entry at most, from 0D on, is above 1.
+fn over_one(image: &[u32]) -> bool
+    requires { ⌜ imageWords ≤ length (now image) ⌝ }
+    ensures { λ r. ⌜ r ≡ aboveFrom 5 (drop 5 rows) (now (image .entry)) ⌝ }
+{
+    if above(image, 5, 1) {
+        return true;
+    }
+    if above(image, 6, 1) {
+        return true;
+    }
+    if above(image, 7, 1) {
+        return true;
+    }
+    if above(image, 8, 1) {
+        return true;
+    }
+    false
 }
 
 // Some count is above its table's most entries.
@@ -70,22 +100,27 @@ pub fn over_limit(image: &[u32]) -> bool
     if above(image, 4, 5) {
         return true;
     }
-    if above(image, 5, 1) {
+    over_one(image)
+}
+
+// A table that has to have one entry has another number of them.
+fn not_single(image: &[u32]) -> bool
+    requires { ⌜ imageWords ≤ length (now image) ⌝ }
+    ensures { λ r. ⌜ r ≡ notSingle (now (image .entry)) ⌝ }
+{
+    if differs(image, 6, 1) {
         return true;
     }
-    if above(image, 6, 1) {
+    if differs(image, 7, 1) {
         return true;
     }
-    if above(image, 7, 1) {
-        return true;
-    }
-    if above(image, 8, 1) {
+    if differs(image, 8, 1) {
         return true;
     }
     false
 }
 
-// Rule 20: a table is missing that has to be there, or one has another number of entries than it has to have.
+// Rule 20: a table is missing that has to be there, or has another number of entries than it has to have.
 pub fn incomplete(image: &[u32]) -> bool
     requires { ⌜ imageWords ≤ length (now image) ⌝ }
     ensures { λ r. ⌜ r ≡ incomplete (now (image .entry)) ⌝ }
@@ -96,22 +131,13 @@ pub fn incomplete(image: &[u32]) -> bool
     if counts(image, 2, 0) {
         return true;
     }
-    if !counts(image, 3, 13) {
+    if differs(image, 3, 13) {
         return true;
     }
-    if !counts(image, 4, 5) {
+    if differs(image, 4, 5) {
         return true;
     }
-    if !counts(image, 6, 1) {
-        return true;
-    }
-    if !counts(image, 7, 1) {
-        return true;
-    }
-    if !counts(image, 8, 1) {
-        return true;
-    }
-    false
+    not_single(image)
 }
 
 // 30 for a frame, a release, a tile and a fresh ledger.

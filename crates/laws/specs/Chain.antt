@@ -70,6 +70,9 @@ of-eq a b r e h = sym e ∙ h
 pub of-ne : (a b r : ℕ) → r ≡ b → (r ≡ a → ⊥) → b ≡ a → ⊥
 of-ne a b r e h q = h (e ∙ q)
 
+-- the laws of a chain whose tests are all flags that calls handed over: fewer ways to try, so a longer chain
+pub ruleset flags = (hit, pass)
+
 -- every law of a chain, for `search`
 pub ruleset chain = (hit, pass, hit-lt, pass-lt, hit-le, pass-le, hit-eq, pass-eq, hit-ne, pass-ne)
 

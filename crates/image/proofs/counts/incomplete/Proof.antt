@@ -1,6 +1,6 @@
 -- `image::counts::incomplete`: rule 20's tests, in its order.
 use borrow.Author.Needs.{needs}
-use Rattle.laws.specs.Chain.{chain}
+use Rattle.laws.specs.Chain.{flags}
 use Rattle.image.specs.Loaded.{incomplete}
 use Rattle.image.proofs.counts.incomplete.Statement.{statement}
 use Rattle.image.proofs.counts.incomplete.Tie as tie
@@ -11,17 +11,12 @@ incomplete-spec =
     tie.close
     (tie.spec
     (λ c κs. search needs)
-    (λ c. search (needs, chain) depth 40)
+    (λ c. search flags depth 40)
     (λ c κs. search needs)
-    (λ c. search (needs, chain) depth 40)
+    (λ c. search flags depth 40)
     (λ c κs. search needs)
-    (λ c. search (needs, chain) depth 40)
+    (λ c. search flags depth 40)
     (λ c κs. search needs)
-    (λ c. search (needs, chain) depth 40)
+    (λ c. search flags depth 40)
     (λ c κs. search needs)
-    (λ c. search (needs, chain) depth 40)
-    (λ c κs. search needs)
-    (λ c. search (needs, chain) depth 40)
-    (λ c κs. search needs)
-    (λ c. search (needs, chain) depth 40)
-    (λ c. search (needs, chain) depth 40))
+    (λ c. search flags depth 40))

@@ -11,8 +11,8 @@ not-loaded-spec =
     tie.close
     (tie.spec
     (λ c. search needs)
-    (λ c. search (needs, chain) depth 40)
+    (λ c. search chain depth 40)
     (λ c κs. search needs)
-    (λ c. search (needs, chain) depth 40)
+    (λ c. search chain depth 40)
     (λ c κs. search needs)
-    (λ c. search (needs, chain) depth 40))
+    (λ c. search chain depth 40))

@@ -1,6 +1,6 @@
--- `image::counts::over_limit`: nine tests, in the rows' order.
+-- `image::counts::over_limit`: a test a row, in the rows' order.
 use borrow.Author.Needs.{needs}
-use Rattle.laws.specs.Chain.{chain}
+use Rattle.laws.specs.Chain.{flags}
 use Rattle.image.specs.Loaded.{overLimit}
 use Rattle.image.proofs.counts.over_limit.Statement.{statement}
 use Rattle.image.proofs.counts.over_limit.Tie as tie
@@ -11,21 +11,14 @@ over-limit-spec =
     tie.close
     (tie.spec
     (λ c κs. search needs)
-    (λ c. search (needs, chain) depth 40)
+    (λ c. search flags depth 40)
     (λ c κs. search needs)
-    (λ c. search (needs, chain) depth 40)
+    (λ c. search flags depth 40)
     (λ c κs. search needs)
-    (λ c. search (needs, chain) depth 40)
+    (λ c. search flags depth 40)
     (λ c κs. search needs)
-    (λ c. search (needs, chain) depth 40)
+    (λ c. search flags depth 40)
     (λ c κs. search needs)
-    (λ c. search (needs, chain) depth 40)
+    (λ c. search flags depth 40)
     (λ c κs. search needs)
-    (λ c. search (needs, chain) depth 40)
-    (λ c κs. search needs)
-    (λ c. search (needs, chain) depth 40)
-    (λ c κs. search needs)
-    (λ c. search (needs, chain) depth 40)
-    (λ c κs. search needs)
-    (λ c. search (needs, chain) depth 40)
-    (λ c. search (needs, chain) depth 40))
+    (λ c. search flags depth 40))
