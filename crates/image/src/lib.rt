@@ -7,4 +7,5 @@ pub mod forwarding;
 pub mod mac;
 pub mod parameters;
 pub mod policing;
+pub mod tables;
 pub mod vlan;

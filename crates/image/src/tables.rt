@@ -1,0 +1,138 @@
+// The nine tables by name: which block ID is which table's, and each table's row.
+ghost use mathlib.Core.Path.{_≡_};
+ghost use Prim.Native.Nat.{_<_};
+ghost use Rattle.image.specs.Rows.{sizeOf, mostOf, baseOf};
+ghost use Rattle.image.specs.Tables.{indexOf, blockOf, kindOf};
+
+// The tables that document 01 carries, in ascending block ID.
+pub enum Table {
+    AddressLookup,
+    Policing,
+    VlanLookup,
+    Forwarding,
+    MacConfiguration,
+    LookupParameters,
+    ForwardingParameters,
+    GeneralParameters,
+    XmiiModeParameters,
+}
+
+// What a block ID names: a table that is carried, another table of the manual's table 2, or nothing there.
+pub enum Block {
+    Carried(Table),
+    NotCarried,
+    Unknown,
+}
+
+// A block ID's number: its table's place in the rows, 9 for another ID of table 2, 10 for none of its.
+fn kind_of(id: u32) -> u32
+    requires { ⌜ id < 256 ⌝ }
+    ensures { λ r. ⌜ (r ≡ kindOf id) × (r < 11) ⌝ }
+{
+    match id {
+        0x05 => 0,
+        0x06 => 1,
+        0x07 => 2,
+        0x08 => 3,
+        0x09 => 4,
+        0x0D => 5,
+        0x0E => 6,
+        0x11 => 7,
+        0x4E => 8,
+        _ => {
+            if id <= 0x12 {
+                9
+            } else {
+                10
+            }
+        }
+    }
+}
+
+pub fn block_of(id: u32) -> Block
+    requires { ⌜ id < 256 ⌝ }
+    ensures { λ r. ⌜ r ≡ blockOf id ⌝ }
+{
+    let kind = kind_of(id);
+    match kind {
+        0 => Block::Carried(Table::AddressLookup),
+        1 => Block::Carried(Table::Policing),
+        2 => Block::Carried(Table::VlanLookup),
+        3 => Block::Carried(Table::Forwarding),
+        4 => Block::Carried(Table::MacConfiguration),
+        5 => Block::Carried(Table::LookupParameters),
+        6 => Block::Carried(Table::ForwardingParameters),
+        7 => Block::Carried(Table::GeneralParameters),
+        8 => Block::Carried(Table::XmiiModeParameters),
+        9 => Block::NotCarried,
+        _ => Block::Unknown,
+    }
+}
+
+// A table's place in the rows.
+pub fn index_of(t: Table) -> usize
+    ensures { λ r. ⌜ (r ≡ indexOf t) × (r < 9) ⌝ }
+{
+    match t {
+        Table::AddressLookup => 0,
+        Table::Policing => 1,
+        Table::VlanLookup => 2,
+        Table::Forwarding => 3,
+        Table::MacConfiguration => 4,
+        Table::LookupParameters => 5,
+        Table::ForwardingParameters => 6,
+        Table::GeneralParameters => 7,
+        Table::XmiiModeParameters => 8,
+    }
+}
+
+// Where a table's entries start in the image.
+pub fn base_of(t: Table) -> usize
+    ensures { λ r. ⌜ (r ≡ baseOf (indexOf t)) × (r < 11430) ⌝ }
+{
+    match t {
+        Table::AddressLookup => 0,
+        Table::Policing => 3072,
+        Table::VlanLookup => 3162,
+        Table::Forwarding => 11354,
+        Table::MacConfiguration => 11380,
+        Table::LookupParameters => 11415,
+        Table::ForwardingParameters => 11416,
+        Table::GeneralParameters => 11419,
+        Table::XmiiModeParameters => 11429,
+    }
+}
+
+// The words of an entry.
+pub fn size_of(t: Table) -> usize
+    ensures { λ r. ⌜ (r ≡ sizeOf (indexOf t)) × (0 < r) × (r < 11) ⌝ }
+{
+    match t {
+        Table::AddressLookup => 3,
+        Table::Policing => 2,
+        Table::VlanLookup => 2,
+        Table::Forwarding => 2,
+        Table::MacConfiguration => 7,
+        Table::LookupParameters => 1,
+        Table::ForwardingParameters => 3,
+        Table::GeneralParameters => 10,
+        Table::XmiiModeParameters => 1,
+    }
+}
+
+// The most entries that a table takes.
+pub fn most_of(t: Table) -> usize
+    ensures { λ r. ⌜ (r ≡ mostOf (indexOf t)) × (r < 4097) ⌝ }
+{
+    match t {
+        Table::AddressLookup => 1024,
+        Table::Policing => 45,
+        Table::VlanLookup => 4096,
+        Table::Forwarding => 13,
+        Table::MacConfiguration => 5,
+        Table::LookupParameters => 1,
+        Table::ForwardingParameters => 1,
+        Table::GeneralParameters => 1,
+        Table::XmiiModeParameters => 1,
+    }
+}
