@@ -20,13 +20,14 @@ low-bits x y k b w h = go (k - (b + w)) (omega arith)
   where
     go : (d : ℕ) → k ≡ b + (w + d) → (x + 2 ^ k * y) / 2 ^ b % 2 ^ w ≡ x / 2 ^ b % 2 ^ w
     go d e =
-        rw
-        (e,
-        pow-add 2 b (w + d),
-        pow-add 2 w d,
-        mul-assoc (2 ^ b) (2 ^ w * 2 ^ d) y,
-        add-mul-div-left x (2 ^ w * 2 ^ d * y) (pow-pos b),
-        mul-assoc (2 ^ w) (2 ^ d) y)
+        rw (
+          e,
+          pow-add 2 b (w + d),
+          pow-add 2 w d,
+          mul-assoc (2 ^ b) (2 ^ w * 2 ^ d) y,
+          add-mul-div-left x (2 ^ w * 2 ^ d * y) (pow-pos b),
+          mul-assoc (2 ^ w) (2 ^ d) y,
+        )
         (add-mul-mod-self-left (x / 2 ^ b) (2 ^ w) (2 ^ d * y))
 
 -- a whole word lower: the number without its lowest word

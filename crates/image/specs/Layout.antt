@@ -55,6 +55,10 @@ abbrev pub countsFrom : ℕ → List Row → List (List ℕ) → List ℕ
 countsFrom k [] lists = []
 countsFrom k (r ∷ rs) lists = length (getD lists k []) / r .size ∷ countsFrom (suc k) rs lists
 
+-- the entries, the counts, the word where the mark goes, and zeros
+unfoldable pub layout : ℕ → List (List ℕ) → List ℕ
+layout mark lists = entriesFrom 0 rows lists ++ (countsFrom 0 rows lists ++ (mark ∷ replicate 16 0))
+
 -- "a loaded image holds the entries, the counts and the mark that it is loaded, all fixed by the entry lists alone"
-unfoldable pub imageOf : List (List ℕ) → List ℕ
-imageOf lists = entriesFrom 0 rows lists ++ countsFrom 0 rows lists ++ 1 ∷ replicate 16 0
+abbrev pub imageOf : List (List ℕ) → List ℕ
+imageOf lists = layout 1 lists

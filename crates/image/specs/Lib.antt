@@ -5,3 +5,5 @@ pub mod Tables
 pub mod Fields
 pub mod Loaded
 pub mod Laws
+pub mod Images
+pub mod Proved

@@ -1,6 +1,5 @@
 // MAC Configuration, block 09 (the manual's table 14): entry i is port i's.
 use crate::bits::field;
-
 ghost use mathlib.Core.Path.{_≡_};
 ghost use Prim.Native.Nat.{_<_};
 ghost use Rattle.image.specs.Layout.{Held};

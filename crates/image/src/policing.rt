@@ -1,6 +1,5 @@
 // L2 Policing, block 06 (the manual's table 11).
 use crate::bits::field;
-
 ghost use mathlib.Core.Path.{_≡_};
 ghost use Prim.Native.Nat.{_<_};
 ghost use Rattle.image.specs.Layout.{Held};

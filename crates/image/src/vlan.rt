@@ -1,6 +1,5 @@
 // VLAN Lookup, block 07 (the manual's table 12).
 use crate::bits::field;
-
 ghost use mathlib.Core.Path.{_≡_};
 ghost use Prim.Native.Nat.{_<_};
 ghost use Rattle.image.specs.Layout.{Held};

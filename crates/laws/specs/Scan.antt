@@ -60,6 +60,7 @@ every-fails (suc n) i p l h =
   where
     and-left : (a b : Bool) → a ≡ false → (a && b) ≡ false
     and-left a b e = ap (λ (t : Bool). t && b) e
+
     and-right : (a b : Bool) → b ≡ false → (a && b) ≡ false
     and-right true b e = e
     and-right false b e = refl
@@ -75,6 +76,7 @@ every-at (suc n) i p e l =
     left : (a b : Bool) → (a && b) ≡ true → a ≡ true
     left true b q = refl
     left false b q = q
+
     right : (a b : Bool) → (a && b) ≡ true → b ≡ true
     right true b q = q
     right false b q = absurd (mathlib.Core.Bool.false≢true q)

@@ -196,9 +196,8 @@ fn linear() -> Vec<Case> {
     blocks.swap(0, 1);
     let swapped = with_global(&blocks, global);
     // An entry more: a length has changed.
-    let mut blocks = plain_blocks(&with_vlan(k::lists(), 2, 31, 31, 0));
+    let blocks = plain_blocks(&with_vlan(k::lists(), 2, 31, 31, 0));
     let longer = with_global(&blocks, global);
-    blocks.clear();
     vec![
         Case::of_words("mended_data_is_not_seen", LINEAR, &mended_data).output(k::OUTPUT),
         Case::of_words("mended_header_is_not_seen", LINEAR, &mended_header).output(k::OUTPUT),

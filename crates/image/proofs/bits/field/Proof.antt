@@ -12,28 +12,30 @@ use Rattle.image.proofs.bits.field.Tie as tie
 returns : tie.Need-returns
 returns c =
     let s = c .before .before .before .before .before in
-    let words : Words (now (s .args .image)) = λ k. c .before .before .before .before .shared-slice-known .given k .fits in
-    (c .cut .ensures .0
-    ∙ ap (λ (x : ℕ). x / 2 ^ (s .args .bottom % 32) % 2 ^ (s .args .top - s .args .bottom + 1)) (c .before .wide .ensures .0)
-    ∙ sym
-    (field-in-word (now (s .args .image)) (s .args .base + s .args .i * s .args .size) (s .args .size) (s .args .top) (s .args .bottom) words
-    (search needs)
-    (search needs)
-    (c .before .before .before .if1 .taken)),
-    c .cut .ensures .1)
+    let words : Words (now (s .args .image)) = λ k. c .before .before .before .before .shared-slice-known .given k .fits in (
+      c .cut .ensures .0
+          ∙ ap (λ (x : ℕ). x / 2 ^ (s .args .bottom % 32) % 2 ^ (s .args .top - s .args .bottom + 1)) (c .before .wide .ensures .0)
+          ∙ sym
+          (field-in-word (now (s .args .image)) (s .args .base + s .args .i * s .args .size) (s .args .size) (s .args .top) (s .args .bottom) words
+          (search needs)
+          (search needs)
+          (c .before .before .before .if1 .taken)),
+      c .cut .ensures .1,
+    )
 
 returns-2 : tie.Need-returns-2
 returns-2 c =
     let s = c .before .before .before .before .before .before in
-    let words : Words (now (s .args .image)) = λ k. c .before .before .before .before .before .shared-slice-known .given k .fits in
-    (c .cut2 .ensures .0
-    ∙ ap (λ (x : ℕ). x / 2 ^ (s .args .bottom % 32) % 2 ^ (s .args .top - s .args .bottom + 1)) (c .before .pair .ensures)
-    ∙ sym
-    (field-in-pair (now (s .args .image)) (s .args .base + s .args .i * s .args .size) (s .args .size) (s .args .top) (s .args .bottom) words
-    (search needs)
-    (search needs)
-    (omega arith)),
-    c .cut2 .ensures .1)
+    let words : Words (now (s .args .image)) = λ k. c .before .before .before .before .before .shared-slice-known .given k .fits in (
+      c .cut2 .ensures .0
+          ∙ ap (λ (x : ℕ). x / 2 ^ (s .args .bottom % 32) % 2 ^ (s .args .top - s .args .bottom + 1)) (c .before .pair .ensures)
+          ∙ sym
+          (field-in-pair (now (s .args .image)) (s .args .base + s .args .i * s .args .size) (s .args .size) (s .args .top) (s .args .bottom) words
+          (search needs)
+          (search needs)
+          (omega arith)),
+      c .cut2 .ensures .1,
+    )
 
 pub field-spec : {M : Type 1} → statement M
 field-spec =

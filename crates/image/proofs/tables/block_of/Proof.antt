@@ -26,6 +26,6 @@ block-of-spec =
     (λ c. ap named (sym (c .match .keys8) ∙ c .before .kind-of .ensures .0))
     (λ c. ap named (sym (c .match .keys9) ∙ c .before .kind-of .ensures .0))
     (λ c. ap named (sym (c .match .keys10) ∙ c .before .kind-of .ensures .0))
-    (λ c. 
-      let ten : c .before .kind-of .result ≡ 10 = le-antisymm (le-of-suc-le-suc (c .before .kind-of .ensures .1)) (past 9 _ (past 8 _ (past 7 _ (past 6 _ (past 5 _ (past 4 _ (past 3 _ (past 2 _ (past 1 _ (past 0 _ zero-le (c .match .rest .0 .0 .0 .0 .0 .0 .0 .0 .0 .1)) (c .match .rest .0 .0 .0 .0 .0 .0 .0 .0 .1)) (c .match .rest .0 .0 .0 .0 .0 .0 .0 .1)) (c .match .rest .0 .0 .0 .0 .0 .0 .1)) (c .match .rest .0 .0 .0 .0 .0 .1)) (c .match .rest .0 .0 .0 .0 .1)) (c .match .rest .0 .0 .0 .1)) (c .match .rest .0 .0 .1)) (c .match .rest .0 .1)) (c .match .rest .1)) in
-      ap named (sym ten ∙ c .before .kind-of .ensures .0)))
+    (λ c.
+    let ten : c .before .kind-of .result ≡ 10 = le-antisymm (le-of-suc-le-suc (c .before .kind-of .ensures .1)) (past 9 _ (past 8 _ (past 7 _ (past 6 _ (past 5 _ (past 4 _ (past 3 _ (past 2 _ (past 1 _ (past 0 _ zero-le (c .match .rest .0 .0 .0 .0 .0 .0 .0 .0 .0 .1)) (c .match .rest .0 .0 .0 .0 .0 .0 .0 .0 .1)) (c .match .rest .0 .0 .0 .0 .0 .0 .0 .1)) (c .match .rest .0 .0 .0 .0 .0 .0 .1)) (c .match .rest .0 .0 .0 .0 .0 .1)) (c .match .rest .0 .0 .0 .0 .1)) (c .match .rest .0 .0 .0 .1)) (c .match .rest .0 .0 .1)) (c .match .rest .0 .1)) (c .match .rest .1)) in
+    ap named (sym ten ∙ c .before .kind-of .ensures .0)))
