@@ -2,12 +2,13 @@
 use mathlib.Core.Path.{_≡_, refl, sym, _∙_, ap, subst}
 use mathlib.Core.List.{List, [], _∷_, _++_}
 use Prim.Native.Nat.{ℕ, zero, suc, _+_, _-_, _*_, _/_, _%_, _^_, _<_, _≤_}
-use native.Mathlib.Nat.{add-zero, zero-add, add-mul-div-left, add-mul-mod-self-left, div-div-eq-div-mul, div-eq-of-lt, zero-div, mul-assoc, mul-comm, mul-add, mul-suc, add-assoc, le-dest, div-add-mod, one-mul}
+use native.Mathlib.Nat.{add-zero, zero-add, suc-add, le-of-suc-le-suc, not-suc-le-zero, add-mul-div-left, add-mul-mod-self-left, div-div-eq-div-mul, div-eq-of-lt, zero-div, mul-assoc, mul-comm, mul-add, mul-suc, add-assoc, le-dest, div-add-mod, one-mul}
 use native.Mathlib.Numerals.{add-one}
 use native.Mathlib.Omega.{arith}
 use lib.Pow.{pow-add, pow-pos, shl-exact}
 use lib.ListN.{length, getD, take, drop}
-use lib.Seq.{getD-drop, getD-take}
+use lib.Seq.{getD-drop, getD-take, take-take}
+use Rattle.image.specs.Layout.{imageWords, imageIn}
 use Rattle.image.specs.Fields.{number, bits}
 
 -- each element of a list of words fits 32 bits, as does the 0 past its end
@@ -109,3 +110,19 @@ module _ (l : List ℕ) (at n top bottom : ℕ) (words : Words l) (order : botto
 -- 1 shifted left by less than 64 is that power of 2
 pub one-shifted : (w : ℕ) → w < 64 → 1 * 2 ^ w % 2 ^ 64 ≡ 2 ^ w
 one-shifted w h = shl-exact 1 w 64 (omega arith) (omega arith) ∙ one-mul (2 ^ w)
+
+-- ---- the image in a buffer
+pub getD-in : (buffer : List ℕ) (j : ℕ) → j < imageWords → getD (imageIn buffer) j 0 ≡ getD buffer j 0
+unfolding imageIn
+getD-in buffer j h = getD-take imageWords buffer j 0 h
+
+-- a part that ends inside the first n elements
+part-in : (n at s : ℕ) (l : List ℕ) → at + s ≤ n → take s (drop at (take n l)) ≡ take s (drop at l)
+part-in n zero s l h = take-take s n l (subst (λ (m : ℕ). m ≤ n) (zero-add s) h)
+part-in zero (suc at) s l h = absurd (not-suc-le-zero (subst (λ (m : ℕ). m ≤ 0) (suc-add at s) h))
+part-in (suc n) (suc at) s [] h = refl
+part-in (suc n) (suc at) s (x ∷ l) h = part-in n at s l (le-of-suc-le-suc (subst (λ (m : ℕ). m ≤ suc n) (suc-add at s) h))
+
+pub words-in : (at s : ℕ) (buffer : List ℕ) → at + s ≤ imageWords → take s (drop at (imageIn buffer)) ≡ take s (drop at buffer)
+unfolding imageIn
+words-in at s buffer h = part-in imageWords at s buffer h

@@ -13,6 +13,10 @@ entryWords = before 9 rows
 abbrev pub imageWords : ℕ
 imageWords = entryWords + 26
 
+-- what a buffer holds of the image: its first words. Every definition reads these and none reads the buffer's rest
+unfoldable pub imageIn : List ℕ → List ℕ
+imageIn buffer = take imageWords buffer
+
 -- nine counts in ascending block ID, then the mark
 abbrev pub countAt : ℕ → ℕ
 countAt k = entryWords + k
@@ -34,10 +38,10 @@ entryOf image k i = take (sizeOf k) (drop (baseOf k + i * sizeOf k) image)
 
 -- There is an entry i of table k to read: the buffer has an image, the table's count is within its limit, and i is below the count.
 -- Each reader of a field asks this, so nothing reads an entry beyond its table's count, and an absent table has no entry, not a zero one.
-pub record Held (k i : ℕ) (image : List ℕ) : Type 0 where
-  pub whole : imageWords ≤ length image
-  pub within : countOf image k ≤ mostOf k
-  pub there : i < countOf image k
+pub record Held (k i : ℕ) (buffer : List ℕ) : Type 0 where
+  pub whole : imageWords ≤ length buffer
+  pub within : countOf (imageIn buffer) k ≤ mostOf k
+  pub there : i < countOf (imageIn buffer) k
 
 -- ---- the image that nine lists of words fix
 

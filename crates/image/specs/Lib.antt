@@ -7,3 +7,4 @@ pub mod Loaded
 pub mod Laws
 pub mod Images
 pub mod Proved
+pub mod Sound

@@ -2,7 +2,7 @@
 use crate::bits::field;
 ghost use mathlib.Core.Path.{_≡_};
 ghost use Prim.Native.Nat.{_<_};
-ghost use Rattle.image.specs.Layout.{Held};
+ghost use Rattle.image.specs.Layout.{Held, imageIn};
 ghost use Rattle.image.specs.Fields.{addressVlanid, macaddr, destports, enfport, index};
 
 const START: usize = 0;
@@ -12,7 +12,7 @@ const SIZE: usize = 3;
 // VLANID, 95:84
 pub fn vlanid(image: &[u32], i: usize) -> u64
     requires { ⌜ Held 0 i (now image) ⌝ }
-    ensures { λ r. ⌜ (r ≡ addressVlanid (now (image .entry)) i) × (r < 4096) ⌝ }
+    ensures { λ r. ⌜ (r ≡ addressVlanid (imageIn (now (image .entry))) i) × (r < 4096) ⌝ }
 {
     field(image, START, SIZE, i, 95, 84)
 }
@@ -20,7 +20,7 @@ pub fn vlanid(image: &[u32], i: usize) -> u64
 // MACADDR, 83:36
 pub fn macaddr(image: &[u32], i: usize) -> u64
     requires { ⌜ Held 0 i (now image) ⌝ }
-    ensures { λ r. ⌜ (r ≡ macaddr (now (image .entry)) i) × (r < 281474976710656) ⌝ }
+    ensures { λ r. ⌜ (r ≡ macaddr (imageIn (now (image .entry))) i) × (r < 281474976710656) ⌝ }
 {
     field(image, START, SIZE, i, 83, 36)
 }
@@ -28,7 +28,7 @@ pub fn macaddr(image: &[u32], i: usize) -> u64
 // DESTPORTS, 35:31
 pub fn destports(image: &[u32], i: usize) -> u64
     requires { ⌜ Held 0 i (now image) ⌝ }
-    ensures { λ r. ⌜ (r ≡ destports (now (image .entry)) i) × (r < 32) ⌝ }
+    ensures { λ r. ⌜ (r ≡ destports (imageIn (now (image .entry))) i) × (r < 32) ⌝ }
 {
     field(image, START, SIZE, i, 35, 31)
 }
@@ -36,7 +36,7 @@ pub fn destports(image: &[u32], i: usize) -> u64
 // ENFPORT, bit 30
 pub fn enfport(image: &[u32], i: usize) -> u64
     requires { ⌜ Held 0 i (now image) ⌝ }
-    ensures { λ r. ⌜ (r ≡ enfport (now (image .entry)) i) × (r < 2) ⌝ }
+    ensures { λ r. ⌜ (r ≡ enfport (imageIn (now (image .entry))) i) × (r < 2) ⌝ }
 {
     field(image, START, SIZE, i, 30, 30)
 }
@@ -44,7 +44,7 @@ pub fn enfport(image: &[u32], i: usize) -> u64
 // INDEX, 29:20
 pub fn index(image: &[u32], i: usize) -> u64
     requires { ⌜ Held 0 i (now image) ⌝ }
-    ensures { λ r. ⌜ (r ≡ index (now (image .entry)) i) × (r < 1024) ⌝ }
+    ensures { λ r. ⌜ (r ≡ index (imageIn (now (image .entry))) i) × (r < 1024) ⌝ }
 {
     field(image, START, SIZE, i, 29, 20)
 }

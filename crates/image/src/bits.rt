@@ -2,6 +2,7 @@
 ghost use mathlib.Core.Path.{_≡_};
 ghost use Prim.Native.Nat.{_+_, _-_, _*_, _/_, _%_, _^_, _<_, _≤_};
 ghost use lib.ListN.{length, take, drop};
+ghost use Rattle.image.specs.Layout.{imageWords, imageIn};
 ghost use Rattle.image.specs.Fields.{number, bits};
 
 fn wide(x: u32) -> u64
@@ -27,9 +28,9 @@ fn pair(low: u32, high: u32) -> u64
 
 // Bits top:bottom of entry i of a table that starts at base with entries of `size` words; the field lies in one word or in two neighbours.
 pub fn field(image: &[u32], base: usize, size: usize, i: usize, top: usize, bottom: usize) -> u64
-    requires there { ⌜ base + i * size + size ≤ length (now image) ⌝ }
+    requires there { ⌜ (base + i * size + size ≤ imageWords) × (imageWords ≤ length (now image)) ⌝ }
     requires narrow { ⌜ (bottom ≤ top) × (top < bottom + 48) × (top < 32 * size) × (top / 32 ≤ bottom / 32 + 1) ⌝ }
-    ensures { λ r. ⌜ (r ≡ bits (number (take size (drop (base + i * size) (now (image .entry))))) top bottom) × (r < 2 ^ (top - bottom + 1)) ⌝ }
+    ensures { λ r. ⌜ (r ≡ bits (number (take size (drop (base + i * size) (imageIn (now (image .entry)))))) top bottom) × (r < 2 ^ (top - bottom + 1)) ⌝ }
 {
     let low = base + i * size + bottom / 32;
     let shift = (bottom % 32) as u64;

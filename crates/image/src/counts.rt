@@ -1,10 +1,10 @@
 // The counts and the mark behind the entries, and the tests behind refusals 31 and 30.
 ghost use mathlib.Core.Path.{_≡_};
 ghost use Prim.Native.Nat.{_<_, _≤_};
-ghost use lib.ListN.{length, drop};
+ghost use lib.ListN.{length, getD, drop};
 ghost use mathlib.Core.Bool.{not};
 ghost use lib.Dec.{ltb, eqb};
-ghost use Rattle.image.specs.Layout.{imageWords, countOf, markOf};
+ghost use Rattle.image.specs.Layout.{imageWords, imageIn, countOf, markOf};
 ghost use Rattle.image.specs.Rows.{rows};
 ghost use Rattle.image.specs.Loaded.{tooShort, aboveFrom, overLimit, notSingle, incomplete, notLoaded};
 
@@ -21,18 +21,26 @@ fn as_count(x: u32) -> usize
     x as usize
 }
 
+// Word j of the image.
+fn word(image: &[u32], j: usize) -> usize
+    requires { ⌜ (imageWords ≤ length (now image)) × (j < imageWords) ⌝ }
+    ensures { λ r. ⌜ (r ≡ getD (imageIn (now (image .entry))) j 0) × (r < 4294967296) ⌝ }
+{
+    as_count(image[j])
+}
+
 // How many entries of table k the image holds.
 pub fn count(image: &[u32], k: usize) -> usize
     requires { ⌜ (imageWords ≤ length (now image)) × (k < 9) ⌝ }
-    ensures { λ r. ⌜ (r ≡ countOf (now (image .entry)) k) × (r < 4294967296) ⌝ }
+    ensures { λ r. ⌜ (r ≡ countOf (imageIn (now (image .entry))) k) × (r < 4294967296) ⌝ }
 {
-    as_count(image[COUNTS + k])
+    word(image, COUNTS + k)
 }
 
 // Is the count of table k above n?
 fn above(image: &[u32], k: usize, n: usize) -> bool
     requires { ⌜ (imageWords ≤ length (now image)) × (k < 9) ⌝ }
-    ensures { λ r. ⌜ r ≡ ltb n (countOf (now (image .entry)) k) ⌝ }
+    ensures { λ r. ⌜ r ≡ ltb n (countOf (imageIn (now (image .entry))) k) ⌝ }
 {
     n < count(image, k)
 }
@@ -40,7 +48,7 @@ fn above(image: &[u32], k: usize, n: usize) -> bool
 // Is the count of table k this n?
 fn counts(image: &[u32], k: usize, n: usize) -> bool
     requires { ⌜ (imageWords ≤ length (now image)) × (k < 9) ⌝ }
-    ensures { λ r. ⌜ r ≡ eqb (countOf (now (image .entry)) k) n ⌝ }
+    ensures { λ r. ⌜ r ≡ eqb (countOf (imageIn (now (image .entry))) k) n ⌝ }
 {
     count(image, k) == n
 }
@@ -48,7 +56,7 @@ fn counts(image: &[u32], k: usize, n: usize) -> bool
 // Is the count of table k another number than n?
 fn differs(image: &[u32], k: usize, n: usize) -> bool
     requires { ⌜ (imageWords ≤ length (now image)) × (k < 9) ⌝ }
-    ensures { λ r. ⌜ r ≡ not (eqb (countOf (now (image .entry)) k) n) ⌝ }
+    ensures { λ r. ⌜ r ≡ not (eqb (countOf (imageIn (now (image .entry))) k) n) ⌝ }
 {
     count(image, k) != n
 }
@@ -63,7 +71,7 @@ pub fn too_short(image: &[u32]) -> bool
 // Some count of the tables that hold one entry at most, from 0D on, is above 1.
 fn over_one(image: &[u32]) -> bool
     requires { ⌜ imageWords ≤ length (now image) ⌝ }
-    ensures { λ r. ⌜ r ≡ aboveFrom 5 (drop 5 rows) (now (image .entry)) ⌝ }
+    ensures { λ r. ⌜ r ≡ aboveFrom 5 (drop 5 rows) (imageIn (now (image .entry))) ⌝ }
 {
     if above(image, 5, 1) {
         return true;
@@ -83,7 +91,7 @@ fn over_one(image: &[u32]) -> bool
 // Some count is above its table's most entries.
 pub fn over_limit(image: &[u32]) -> bool
     requires { ⌜ imageWords ≤ length (now image) ⌝ }
-    ensures { λ r. ⌜ r ≡ overLimit (now (image .entry)) ⌝ }
+    ensures { λ r. ⌜ r ≡ overLimit (imageIn (now (image .entry))) ⌝ }
 {
     if above(image, 0, 1024) {
         return true;
@@ -106,7 +114,7 @@ pub fn over_limit(image: &[u32]) -> bool
 // A table that has to have one entry has another number of them.
 fn not_single(image: &[u32]) -> bool
     requires { ⌜ imageWords ≤ length (now image) ⌝ }
-    ensures { λ r. ⌜ r ≡ notSingle (now (image .entry)) ⌝ }
+    ensures { λ r. ⌜ r ≡ notSingle (imageIn (now (image .entry))) ⌝ }
 {
     if differs(image, 6, 1) {
         return true;
@@ -123,7 +131,7 @@ fn not_single(image: &[u32]) -> bool
 // Rule 20: a table is missing that has to be there, or has another number of entries than it has to have.
 pub fn incomplete(image: &[u32]) -> bool
     requires { ⌜ imageWords ≤ length (now image) ⌝ }
-    ensures { λ r. ⌜ r ≡ incomplete (now (image .entry)) ⌝ }
+    ensures { λ r. ⌜ r ≡ incomplete (imageIn (now (image .entry))) ⌝ }
 {
     if counts(image, 1, 0) {
         return true;
@@ -143,9 +151,9 @@ pub fn incomplete(image: &[u32]) -> bool
 // 30 for a frame, a release, a tile and a fresh ledger.
 pub fn not_loaded(image: &[u32]) -> bool
     requires { ⌜ imageWords ≤ length (now image) ⌝ }
-    ensures { λ r. ⌜ r ≡ notLoaded (now (image .entry)) ⌝ }
+    ensures { λ r. ⌜ r ≡ notLoaded (imageIn (now (image .entry))) ⌝ }
 {
-    if image[MARK] != 1 {
+    if word(image, MARK) != 1 {
         return true;
     }
     if over_limit(image) {

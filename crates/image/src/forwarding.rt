@@ -2,7 +2,7 @@
 use crate::bits::field;
 ghost use mathlib.Core.Path.{_≡_};
 ghost use Prim.Native.Nat.{_<_};
-ghost use Rattle.image.specs.Layout.{Held};
+ghost use Rattle.image.specs.Layout.{Held, imageIn};
 ghost use Rattle.image.specs.Fields.{bcDomain, reachPort, flDomain, vlanPmap};
 
 const START: usize = 11354;
@@ -12,7 +12,7 @@ const SIZE: usize = 2;
 // BC_DOMAIN, 63:59
 pub fn bc_domain(image: &[u32], i: usize) -> u64
     requires { ⌜ Held 3 i (now image) ⌝ }
-    ensures { λ r. ⌜ (r ≡ bcDomain (now (image .entry)) i) × (r < 32) ⌝ }
+    ensures { λ r. ⌜ (r ≡ bcDomain (imageIn (now (image .entry))) i) × (r < 32) ⌝ }
 {
     field(image, START, SIZE, i, 63, 59)
 }
@@ -20,7 +20,7 @@ pub fn bc_domain(image: &[u32], i: usize) -> u64
 // REACH_PORT, 58:54
 pub fn reach_port(image: &[u32], i: usize) -> u64
     requires { ⌜ Held 3 i (now image) ⌝ }
-    ensures { λ r. ⌜ (r ≡ reachPort (now (image .entry)) i) × (r < 32) ⌝ }
+    ensures { λ r. ⌜ (r ≡ reachPort (imageIn (now (image .entry))) i) × (r < 32) ⌝ }
 {
     field(image, START, SIZE, i, 58, 54)
 }
@@ -28,7 +28,7 @@ pub fn reach_port(image: &[u32], i: usize) -> u64
 // FL_DOMAIN, 53:49
 pub fn fl_domain(image: &[u32], i: usize) -> u64
     requires { ⌜ Held 3 i (now image) ⌝ }
-    ensures { λ r. ⌜ (r ≡ flDomain (now (image .entry)) i) × (r < 32) ⌝ }
+    ensures { λ r. ⌜ (r ≡ flDomain (imageIn (now (image .entry))) i) × (r < 32) ⌝ }
 {
     field(image, START, SIZE, i, 53, 49)
 }
@@ -37,7 +37,7 @@ pub fn fl_domain(image: &[u32], i: usize) -> u64
 pub fn vlan_pmap(image: &[u32], i: usize, j: usize) -> u64
     requires { ⌜ Held 3 i (now image) ⌝ }
     requires { ⌜ j < 8 ⌝ }
-    ensures { λ r. ⌜ (r ≡ vlanPmap (now (image .entry)) i j) × (r < 8) ⌝ }
+    ensures { λ r. ⌜ (r ≡ vlanPmap (imageIn (now (image .entry))) i j) × (r < 8) ⌝ }
 {
     field(image, START, SIZE, i, 27 + 3 * j, 25 + 3 * j)
 }

@@ -4,7 +4,7 @@ use crate::counts::count;
 ghost use mathlib.Core.Path.{_≡_};
 ghost use Prim.Native.Nat.{_<_, _≤_};
 ghost use lib.ListN.{length};
-ghost use Rattle.image.specs.Layout.{Held, imageWords, countOf};
+ghost use Rattle.image.specs.Layout.{Held, imageWords, imageIn, countOf};
 ghost use Rattle.image.specs.Fields.{sharedLearn, partSpc};
 
 const LOOKUP_START: usize = 11415;
@@ -13,8 +13,8 @@ const FORWARDING_START: usize = 11416;
 
 // SHARED_LEARN, bit 5; an absent table means clear, whatever its word holds
 pub fn shared_learn(image: &[u32]) -> u64
-    requires { ⌜ (imageWords ≤ length (now image)) × (countOf (now image) 5 ≤ 1) ⌝ }
-    ensures { λ r. ⌜ (r ≡ sharedLearn (now (image .entry))) × (r < 2) ⌝ }
+    requires { ⌜ (imageWords ≤ length (now image)) × (countOf (imageIn (now image)) 5 ≤ 1) ⌝ }
+    ensures { λ r. ⌜ (r ≡ sharedLearn (imageIn (now (image .entry)))) × (r < 2) ⌝ }
 {
     if count(image, 5) == 0 {
         return 0;
@@ -26,7 +26,7 @@ pub fn shared_learn(image: &[u32]) -> u64
 pub fn part_spc(image: &[u32], j: usize) -> u64
     requires { ⌜ Held 6 0 (now image) ⌝ }
     requires { ⌜ j < 8 ⌝ }
-    ensures { λ r. ⌜ (r ≡ partSpc (now (image .entry)) j) × (r < 1024) ⌝ }
+    ensures { λ r. ⌜ (r ≡ partSpc (imageIn (now (image .entry))) j) × (r < 1024) ⌝ }
 {
     field(image, FORWARDING_START, 3, 0, 22 + 10 * j, 13 + 10 * j)
 }

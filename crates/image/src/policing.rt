@@ -2,7 +2,7 @@
 use crate::bits::field;
 ghost use mathlib.Core.Path.{_≡_};
 ghost use Prim.Native.Nat.{_<_};
-ghost use Rattle.image.specs.Layout.{Held};
+ghost use Rattle.image.specs.Layout.{Held, imageIn};
 ghost use Rattle.image.specs.Fields.{sharindx, smax, rate, maxlen, partition};
 
 const START: usize = 3072;
@@ -12,7 +12,7 @@ const SIZE: usize = 2;
 // SHARINDX, 63:58
 pub fn sharindx(image: &[u32], i: usize) -> u64
     requires { ⌜ Held 1 i (now image) ⌝ }
-    ensures { λ r. ⌜ (r ≡ sharindx (now (image .entry)) i) × (r < 64) ⌝ }
+    ensures { λ r. ⌜ (r ≡ sharindx (imageIn (now (image .entry))) i) × (r < 64) ⌝ }
 {
     field(image, START, SIZE, i, 63, 58)
 }
@@ -20,7 +20,7 @@ pub fn sharindx(image: &[u32], i: usize) -> u64
 // SMAX, 57:42
 pub fn smax(image: &[u32], i: usize) -> u64
     requires { ⌜ Held 1 i (now image) ⌝ }
-    ensures { λ r. ⌜ (r ≡ smax (now (image .entry)) i) × (r < 65536) ⌝ }
+    ensures { λ r. ⌜ (r ≡ smax (imageIn (now (image .entry))) i) × (r < 65536) ⌝ }
 {
     field(image, START, SIZE, i, 57, 42)
 }
@@ -28,7 +28,7 @@ pub fn smax(image: &[u32], i: usize) -> u64
 // RATE, 41:26
 pub fn rate(image: &[u32], i: usize) -> u64
     requires { ⌜ Held 1 i (now image) ⌝ }
-    ensures { λ r. ⌜ (r ≡ rate (now (image .entry)) i) × (r < 65536) ⌝ }
+    ensures { λ r. ⌜ (r ≡ rate (imageIn (now (image .entry))) i) × (r < 65536) ⌝ }
 {
     field(image, START, SIZE, i, 41, 26)
 }
@@ -36,7 +36,7 @@ pub fn rate(image: &[u32], i: usize) -> u64
 // MAXLEN, 25:15
 pub fn maxlen(image: &[u32], i: usize) -> u64
     requires { ⌜ Held 1 i (now image) ⌝ }
-    ensures { λ r. ⌜ (r ≡ maxlen (now (image .entry)) i) × (r < 2048) ⌝ }
+    ensures { λ r. ⌜ (r ≡ maxlen (imageIn (now (image .entry))) i) × (r < 2048) ⌝ }
 {
     field(image, START, SIZE, i, 25, 15)
 }
@@ -44,7 +44,7 @@ pub fn maxlen(image: &[u32], i: usize) -> u64
 // PARTITION, 14:12
 pub fn partition(image: &[u32], i: usize) -> u64
     requires { ⌜ Held 1 i (now image) ⌝ }
-    ensures { λ r. ⌜ (r ≡ partition (now (image .entry)) i) × (r < 8) ⌝ }
+    ensures { λ r. ⌜ (r ≡ partition (imageIn (now (image .entry))) i) × (r < 8) ⌝ }
 {
     field(image, START, SIZE, i, 14, 12)
 }

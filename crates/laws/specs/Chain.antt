@@ -1,7 +1,7 @@
 -- Chains of tests. A definition that answers by the first test that holds is a nested `cond`; an early return of the code meets it by
 -- one `hit` at the test that held and a `pass` at each test before it. `search (needs, chain)` finds them.
 use mathlib.Core.Path.{_≡_, refl, sym, _∙_, ap, subst}
-use mathlib.Core.Bool.{Bool, true, false, cond, not}
+use mathlib.Core.Bool.{Bool, true, false, cond, not, true≢false}
 use Prim.Native.Nat.{ℕ, _<_, _≤_}
 use lib.Dec.{ltb, leb, eqb}
 use borrow.Author.Tests.{lt-ltb, le-ltb, le-leb, lt-leb, eq-eqb, ne-eqb}
@@ -50,6 +50,15 @@ module _ {A : Type 0} where
 
   pub pass-ne : (a b : ℕ) (v x y : A) → a ≡ b → v ≡ y → v ≡ cond (not (eqb a b)) x y
   pass-ne a b v x y h p = no-cond (not (eqb a b)) v x y (ap not (eq-eqb a b h)) p
+
+-- a chain of refusals that refuses nothing: its first test failed, and so did the rest
+pub none-first : (b y : Bool) → cond b true y ≡ false → b ≡ false
+none-first true y e = e
+none-first false y e = refl
+
+pub none-rest : (b y : Bool) → cond b true y ≡ false → y ≡ false
+none-rest true y e = absurd (true≢false e)
+none-rest false y e = e
 
 -- A test of a number r that a call handed over is a test of what the call says r is.
 pub lt-of : (a b r : ℕ) → r ≡ b → a < r → a < b

@@ -5,9 +5,9 @@ use reference::image::{self, count_place, make_zero, start_of, IMAGE_WORDS, MARK
 use reference::judge::{judge, release, FrameAnswer, ReleaseAnswer};
 use reference::k;
 use reference::ledger::{fresh_ledger, no_ledger, Ledger, METERS};
-use reference::load::{load_bytes, load_words, write, LoadAnswer, LoadState, Phase};
+use reference::load::{load_bytes, load_words, write, LoadAnswer, LoadState};
 use reference::stream::{plain_stream, Lists};
-use reference::tables::{address_lookup, policing, put_field, vlan_lookup, Table, ROWS};
+use reference::tables::{address_lookup, policing, put_field, vlan_lookup, Table};
 use reference::tile::{tile, TileAnswer};
 
 use crate::build::{open, with_address, with_vlan, Address, Frame, A, C};
@@ -434,24 +434,4 @@ fn no_ledger_is_39() -> Result<(), String> {
     }
     same("fresh of zeros", fresh_ledger(&[0; IMAGE_WORDS]), Err(30))?;
     same("fresh of few", fresh_ledger(&[0; IMAGE_WORDS - 1]), Err(31))
-}
-
-/// Phases and tables are all reachable: what a state is made of.
-pub fn phases_seen() -> Vec<Phase> {
-    let mut phases = Vec::new();
-    for words in 1..199 {
-        let (_, state) = begun(words);
-        if !phases.contains(&state.phase) {
-            phases.push(state.phase);
-        }
-    }
-    phases
-}
-
-/// Tables that K's load passes through.
-pub fn tables_of_k() -> usize {
-    let lists = k::lists();
-    ROWS.iter()
-        .filter(|row| !lists.of(row.table).is_empty())
-        .count()
 }

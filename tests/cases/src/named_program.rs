@@ -227,7 +227,7 @@ fn shares() -> Vec<Case> {
         .frame(2, 0, &Frame::to(A))
         .frame(2, 0, &Frame::to(A).length(59))
         .frame(2, 0, &Frame::to(A));
-    // 1/3 = 1.0101..b x 2^-2; 63/191 = 0x0.547043...: worked out by hand below.
+    // 1/3 is 1.0101..b x 2^-2, rounded down; 63/191 comes from long division in whole numbers.
     let output = format!(
         "\
 config loaded

@@ -2,12 +2,20 @@
 use mathlib.Core.Path.{_≡_, sym, _∙_, ap}
 use Prim.Native.Nat.{ℕ, _+_, _-_, _*_, _/_, _%_, _^_, _<_, _≤_}
 use native.Mathlib.Omega.{arith}
-use lib.ListN.{getD}
+use mathlib.Core.List.{List}
+use lib.ListN.{take, drop}
 use denote.Ref.{now}
 use borrow.Author.Needs.{needs}
-use Rattle.image.specs.Laws.{Words, field-in-word, field-in-pair}
+use Rattle.image.specs.Layout.{imageWords, imageIn}
+use Rattle.image.specs.Fields.{number, bits}
+use Rattle.image.specs.Laws.{Words, words-in, field-in-word, field-in-pair}
 use Rattle.image.proofs.bits.field.Statement.{statement}
 use Rattle.image.proofs.bits.field.Tie as tie
+
+-- the entry's words are the buffer's, since they lie in the image
+same : (at n : ℕ) (l : List ℕ) (top bottom : ℕ) → at + n ≤ imageWords
+    → bits (number (take n (drop at l))) top bottom ≡ bits (number (take n (drop at (imageIn l)))) top bottom
+same at n l top bottom h = ap (λ (ws : List ℕ). bits (number ws) top bottom) (sym (words-in at n l h))
 
 returns : tie.Need-returns
 returns c =
@@ -19,7 +27,8 @@ returns c =
           (field-in-word (now (s .args .image)) (s .args .base + s .args .i * s .args .size) (s .args .size) (s .args .top) (s .args .bottom) words
           (search needs)
           (search needs)
-          (c .before .before .before .if1 .taken)),
+          (c .before .before .before .if1 .taken))
+          ∙ same (s .args .base + s .args .i * s .args .size) (s .args .size) (now (s .args .image)) (s .args .top) (s .args .bottom) (search needs),
       c .cut .ensures .1,
     )
 
@@ -33,7 +42,8 @@ returns-2 c =
           (field-in-pair (now (s .args .image)) (s .args .base + s .args .i * s .args .size) (s .args .size) (s .args .top) (s .args .bottom) words
           (search needs)
           (search needs)
-          (omega arith)),
+          (omega arith))
+          ∙ same (s .args .base + s .args .i * s .args .size) (s .args .size) (now (s .args .image)) (s .args .top) (s .args .bottom) (search needs),
       c .cut2 .ensures .1,
     )
 

@@ -1,6 +1,6 @@
 -- `image::counts::not_loaded`: the mark, the limits, then rule 20.
 use borrow.Author.Needs.{needs}
-use Rattle.laws.specs.Chain.{chain}
+use Rattle.laws.specs.Chain.{chain, carried}
 use Rattle.image.specs.Loaded.{notLoaded}
 use Rattle.image.proofs.counts.not_loaded.Statement.{statement}
 use Rattle.image.proofs.counts.not_loaded.Tie as tie
@@ -10,9 +10,9 @@ unfolding notLoaded
 not-loaded-spec =
     tie.close
     (tie.spec
-    (λ c. search needs)
-    (λ c. search chain depth 40)
     (λ c κs. search needs)
-    (λ c. search chain depth 40)
+    (λ c. search (needs, chain, carried) depth 40)
     (λ c κs. search needs)
-    (λ c. search chain depth 40))
+    (λ c. search (needs, chain, carried) depth 40)
+    (λ c κs. search needs)
+    (λ c. search (needs, chain, carried) depth 40))

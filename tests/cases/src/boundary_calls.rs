@@ -1,0 +1,439 @@
+//! Both sides of each boundary that only calls can show: 30, 31, 32, 38, 39 and edited ledgers.
+
+use reference::image::{count_place, start_of, IMAGE_WORDS, MARK};
+use reference::judge::{judge, release, FrameAnswer, ReleaseAnswer};
+use reference::k;
+use reference::ledger::{fresh_ledger, Ledger, PortCounts, LAST_TIME};
+use reference::load::{load_bytes, load_words, write, LoadAnswer, LoadState, Phase};
+use reference::stream::{plain_stream, Lists};
+use reference::tables::{policing, put_field, Table, ROWS};
+use reference::tile::{tile, TileAnswer};
+
+use crate::build::{open, Frame, A};
+use crate::case::Side;
+use crate::generate::{random_config, Profile};
+use crate::named_calls::same;
+use crate::rng::Rng;
+use crate::tally::Tally;
+
+/// One round: every boundary, both sides.
+pub fn run(rng: &mut Rng, tally: &mut Tally) {
+    too_short(tally);
+    write_lengths(rng, tally);
+    write_counts(rng, tally);
+    write_room(rng, tally);
+    marks_and_counts(rng, tally);
+    ledgers(rng, tally);
+    most_frames(rng, tally);
+    credits(rng, tally);
+    shared_entries(rng, tally);
+}
+
+/// Counts a side and its refusal where it came out as it must.
+fn expect<T: PartialEq + std::fmt::Debug>(
+    tally: &mut Tally,
+    boundary: &'static str,
+    side: Side,
+    got: T,
+    expected: T,
+) {
+    let result = same(boundary, got, expected);
+    if result.is_ok() {
+        tally.side(boundary, side);
+    }
+    tally.result(result);
+}
+
+fn loaded(lists: &Lists) -> Vec<u32> {
+    let mut image = vec![0; IMAGE_WORDS];
+    load_words(&mut image, &plain_stream(lists));
+    image
+}
+
+/// The ledger, or one that every check against will show.
+fn fresh(image: &[u32]) -> Ledger {
+    fresh_ledger(image).unwrap_or(reference::ledger::no_ledger())
+}
+
+/// The refusal number of a frame's answer, 0 for a verdict; and the ledger must be as found.
+fn frame_number(image: &[u32], ledger: &Ledger, port: u32, time: u64, frame: &[u8]) -> u32 {
+    match judge(image, *ledger, port, time, frame) {
+        (FrameAnswer::Refused(number), after) if after == *ledger => number,
+        (FrameAnswer::Refused(_), _) => 999,
+        _ => 0,
+    }
+}
+
+/// The refusal number of a release, 0 where a unit came back.
+fn release_number(image: &[u32], ledger: &Ledger, partition: u32) -> u32 {
+    match release(image, *ledger, partition) {
+        (ReleaseAnswer::Refused(number), after) if after == *ledger => number,
+        (ReleaseAnswer::Refused(_), _) => 999,
+        _ => 0,
+    }
+}
+
+/// The refusal number of a tile; not-loaded counts as the 30 it stands for.
+fn tile_number(image: &[u32], ledger: &Ledger, port: u32) -> u32 {
+    match tile(image, ledger, port) {
+        TileAnswer::Refused(number) => number,
+        TileAnswer::NotLoaded => 30,
+        TileAnswer::NoFrames | TileAnswer::Shares { .. } => 0,
+    }
+}
+
+/// 31 of every call: 11,456 words are enough, 11,455 are not.
+fn too_short(tally: &mut Tally) {
+    let stream = plain_stream(&open());
+    let bytes = reference::stream::bytes_of(&stream);
+    let image = loaded(&open());
+    let ledger = fresh(&image);
+    for (words, side, number) in [
+        (IMAGE_WORDS, Side::Passes, 0),
+        (IMAGE_WORDS - 1, Side::Refused, 31),
+        (0, Side::Refused, 31),
+    ] {
+        let image = &image[..words];
+        let told = |answer| match answer {
+            LoadAnswer::Refused(number) => number,
+            LoadAnswer::Loaded | LoadAnswer::More => 0,
+        };
+        let lent = || vec![9; words];
+        let numbers = [
+            ("31 load_words", told(load_words(&mut lent(), &stream))),
+            ("31 load_bytes", told(load_bytes(&mut lent(), &bytes))),
+            ("31 write", told(write(&mut lent(), LoadState::fresh(), &stream[..9]).0)),
+            ("31 fresh_ledger", fresh_ledger(image).err().unwrap_or(0)),
+            ("31 judge", frame_number(image, &ledger, 0, 0, &[0; 60])),
+            ("31 tile", tile_number(image, &ledger, 0)),
+            ("31 release", release_number(image, &ledger, 0) % 37),
+        ];
+        for (boundary, got) in numbers {
+            if got == 31 {
+                tally.refusal(31);
+            }
+            expect(tally, boundary, side, got, number);
+        }
+    }
+}
+
+/// 32: writes of 1 and 64 words are taken, of 0 and 65 are not.
+fn write_lengths(rng: &mut Rng, tally: &mut Tally) {
+    let stream = plain_stream(&k::lists());
+    let begun = rng.below(30) as usize;
+    for (words, side, boundary) in [
+        (1, Side::Passes, "32 a write of 0 words"),
+        (0, Side::Refused, "32 a write of 0 words"),
+        (64, Side::Passes, "32 a write above 64 words"),
+        (65, Side::Refused, "32 a write above 64 words"),
+    ] {
+        let mut image = vec![0; IMAGE_WORDS];
+        let mut state = LoadState::fresh();
+        if begun > 0 {
+            state = write(&mut image, state, &stream[..begun]).1;
+        }
+        let before = (image.clone(), state);
+        let (answer, after) = write(&mut image, state, &stream[begun..begun + words]);
+        let expected = match side {
+            Side::Passes => LoadAnswer::More,
+            Side::Refused => LoadAnswer::Refused(32),
+        };
+        expect(tally, boundary, side, answer, expected);
+        if side == Side::Refused {
+            tally.refusal(32);
+            tally.result(same("32 leaves all", (image, after), before));
+        }
+    }
+}
+
+const WRITE_COUNTS: [&str; 9] = [
+    "30 write, count of 05",
+    "30 write, count of 06",
+    "30 write, count of 07",
+    "30 write, count of 08",
+    "30 write, count of 09",
+    "30 write, count of 0D",
+    "30 write, count of 0E",
+    "30 write, count of 11",
+    "30 write, count of 4E",
+];
+
+/// 30 of a write: each count at its limit and above, between two blocks.
+fn write_counts(rng: &mut Rng, tally: &mut Tally) {
+    let stream = plain_stream(&k::lists());
+    for row in &ROWS {
+        let most = row.most as u32;
+        let above = rng.pick(&[most + 1, u32::MAX]);
+        for (count, side) in [(most, Side::Passes), (above, Side::Refused)] {
+            let mut image = vec![0; IMAGE_WORDS];
+            // Behind word 0 alone: no block is begun.
+            let (_, state) = write(&mut image, LoadState::fresh(), &stream[..1]);
+            image[count_place(row.table)] = count;
+            let before = image.clone();
+            let (answer, after) = write(&mut image, state, &stream[1..2]);
+            let expected = match side {
+                Side::Passes => LoadAnswer::More,
+                Side::Refused => LoadAnswer::Refused(30),
+            };
+            expect(tally, WRITE_COUNTS[row.table.place()], side, answer, expected);
+            if side == Side::Refused {
+                tally.refusal(30);
+                tally.result(same("30 leaves all", (image, after), (before, state)));
+            }
+        }
+    }
+}
+
+/// 30 of a write inside a block: count x words + placed + due at the room and above it.
+fn write_room(rng: &mut Rng, tally: &mut Tally) {
+    let row = &ROWS[rng.place(9)];
+    let words = row.words as u64;
+    let room = words * row.most as u64;
+    let count = rng.below(row.most as u64);
+    let left = room - count * words;
+    let placed = rng.below(left);
+    let due = left - placed;
+    let edits = [
+        ("30 write, words due", placed, due, Side::Passes),
+        ("30 write, words due", placed, due + 1, Side::Refused),
+        ("30 write, words due", placed, u64::MAX, Side::Refused),
+        ("30 write, words placed", placed, due, Side::Passes),
+        ("30 write, words placed", placed + 1, due, Side::Refused),
+        ("30 write, words placed", u64::MAX, due, Side::Refused),
+    ];
+    for (boundary, placed, due, side) in edits {
+        let phase = rng.pick(&[Phase::Data, Phase::DataChecksum]);
+        let state = LoadState {
+            begun: true,
+            phase,
+            table: row.table,
+            placed,
+            due,
+            ..LoadState::fresh()
+        };
+        let mut image = vec![0; IMAGE_WORDS];
+        image[count_place(row.table)] = count as u32;
+        let before = image.clone();
+        let (answer, after) = write(&mut image, state, &[1]);
+        // A data word is taken; 1 is no checksum of nothing.
+        let expected = match (side, phase) {
+            (Side::Refused, _) => LoadAnswer::Refused(30),
+            (Side::Passes, Phase::Data) => LoadAnswer::More,
+            (Side::Passes, _) => LoadAnswer::Refused(7),
+        };
+        expect(tally, boundary, side, answer, expected);
+        if side == Side::Refused {
+            tally.refusal(30);
+            tally.result(same("30 leaves all", (image, after), (before, state)));
+        }
+    }
+}
+
+/// 30 of frames, releases and fresh ledgers, and the tile's not-loaded: mark and counts.
+fn marks_and_counts(rng: &mut Rng, tally: &mut Tally) {
+    let sound = loaded(&open());
+    let mark_place = MARK;
+    let mut edits = vec![
+        ("30 mark", mark_place, 1, Side::Passes),
+        ("30 mark", mark_place, 0, Side::Refused),
+        ("30 mark", mark_place, rng.pick(&[2, 3, 256, u32::MAX]), Side::Refused),
+    ];
+    let ranges = [
+        ("30 count of 05", Table::L2AddressLookup, 0, 1024),
+        ("30 count of 06", Table::L2Policing, 1, 45),
+        ("30 count of 07", Table::VlanLookup, 1, 4096),
+        ("30 count of 08", Table::L2Forwarding, 13, 13),
+        ("30 count of 09", Table::MacConfiguration, 5, 5),
+        ("30 count of 0D", Table::L2LookupParameters, 0, 1),
+        ("30 count of 0E", Table::L2ForwardingParameters, 1, 1),
+        ("30 count of 11", Table::GeneralParameters, 1, 1),
+        ("30 count of 4E", Table::XmiiModeParameters, 1, 1),
+    ];
+    for (boundary, table, least, most) in ranges {
+        let place = count_place(table);
+        edits.push((boundary, place, least, Side::Passes));
+        edits.push((boundary, place, most, Side::Passes));
+        edits.push((boundary, place, most + 1, Side::Refused));
+        edits.push((boundary, place, u32::MAX, Side::Refused));
+        if least > 0 {
+            edits.push((boundary, place, least - 1, Side::Refused));
+        }
+    }
+    for (boundary, place, word, side) in edits {
+        let mut image = sound.clone();
+        image[place] = word;
+        let ledger = fresh_ledger(&image).unwrap_or(fresh(&sound));
+        let number = if side == Side::Refused { 30 } else { 0 };
+        let numbers = [
+            fresh_ledger(&image).err().unwrap_or(0),
+            frame_number(&image, &ledger, 0, 0, &[0; 60]),
+            release_number(&image, &ledger, 0) % 37,
+            tile_number(&image, &ledger, 0),
+        ];
+        expect(tally, boundary, side, numbers, [number; 4]);
+        if side == Side::Refused {
+            tally.refusal(30);
+        }
+    }
+}
+
+/// A ledger on both sides of each clause of 39.
+fn ledgers(rng: &mut Rng, tally: &mut Tally) {
+    let mut lists = random_config(rng, Profile::Near);
+    lists.of_mut(Table::L2Policing).truncate(30);
+    for number in 0..lists.of(Table::L2Policing).len() {
+        lists.put(policing::SHARINDX, number, 0);
+    }
+    let loaded_entries = lists.of(Table::L2Policing).len();
+    let image = loaded(&lists);
+    let whole = fresh(&image);
+    let time = rng.between(1, LAST_TIME - 1);
+    let (partition, port) = (rng.place(8), rng.place(5));
+    let meter = rng.place(loaded_entries);
+    let not_loaded = loaded_entries + rng.place(45 - loaded_entries);
+    let mut sides: Vec<(&'static str, Ledger, Ledger)> = Vec::new();
+    let mut clause = |boundary, edit: &dyn Fn(&mut Ledger, u64)| {
+        let mut passes = whole;
+        passes.last_time = time;
+        let mut refused = passes;
+        edit(&mut passes, 0);
+        edit(&mut refused, 1);
+        sides.push((boundary, passes, refused));
+    };
+    clause("39 units", &|ledger, more| ledger.units[partition] += more);
+    clause("39 credit", &|ledger, more| ledger.meters[meter].credit += more);
+    clause("39 credit of no entry", &|ledger, more| {
+        ledger.meters[not_loaded].credit = more;
+    });
+    clause("39 time of a meter", &|ledger, more| ledger.meters[meter].time = time + more);
+    clause("39 time of no entry's meter", &|ledger, more| {
+        ledger.meters[not_loaded].time = time + more;
+    });
+    clause("39 last time", &|ledger, more| ledger.last_time = LAST_TIME + more);
+    let mut count = |boundary, counts: &dyn Fn(u64) -> [u64; 4]| {
+        clause(boundary, &|ledger, more| {
+            let [frames, drops, octets, dropped_octets] = counts(more);
+            ledger.ports[port] = PortCounts {
+                frames,
+                drops,
+                octets,
+                dropped_octets,
+            };
+        });
+    };
+    let n = rng.between(1, (1 << 32) - 3);
+    count("39 drops above frames", &|more| [n, n + more, 64 * n, 4 * (n + more)]);
+    count("39 octets below 4 x frames", &|more| [n, 0, 4 * n - more, 0]);
+    count("39 octets above 4,100 x frames", &|more| [n, 0, 4_100 * n + more, 0]);
+    count("39 octets of no frames", &|more| [0, 0, more, 0]);
+    count("39 dropped octets below 4 x drops", &|more| [n + 1, n, 64 * n + 64, 4 * n - more]);
+    count("39 dropped octets above 4,100 x drops", &|more| {
+        [n + 1, n, 4_100 * n + 4_100, 4_100 * n + more]
+    });
+    count("39 dropped octets of no drops", &|more| [n, 0, 64 * n, more]);
+    count("39 dropped octets above octets", &|more| [n + 1, n, 64 * n, 64 * n + more]);
+    for (boundary, passes, refused) in sides {
+        ask_39(rng, tally, boundary, Side::Passes, &image, &passes);
+        ask_39(rng, tally, boundary, Side::Refused, &image, &refused);
+    }
+}
+
+/// Whichever port and partition is asked.
+fn ask_39(
+    rng: &mut Rng,
+    tally: &mut Tally,
+    boundary: &'static str,
+    side: Side,
+    image: &[u32],
+    ledger: &Ledger,
+) {
+    let (port, partition) = (rng.below(5) as u32, rng.below(8) as u32);
+    let frame = Frame::to(A).bytes();
+    let numbers = [
+        frame_number(image, ledger, port, ledger.last_time, &frame),
+        release_number(image, ledger, partition) % 37,
+        tile_number(image, ledger, port),
+    ];
+    let number = if side == Side::Refused { 39 } else { 0 };
+    // 39 is 2 beyond 37, which a release gives where nothing is out.
+    expect(tally, boundary, side, numbers, [number, number % 37, number]);
+    if side == Side::Refused {
+        tally.refusal(39);
+    }
+}
+
+/// 38: this port's frames at 2^32 - 2 and 2^32 - 1.
+fn most_frames(rng: &mut Rng, tally: &mut Tally) {
+    let image = loaded(&open());
+    let port = rng.place(5);
+    for (frames, side, number) in [
+        ((1 << 32) - 2, Side::Passes, 0),
+        ((1 << 32) - 1, Side::Refused, 38),
+    ] {
+        let mut ledger = fresh(&image);
+        ledger.ports[port].frames = frames;
+        ledger.ports[port].octets = frames * rng.between(4, 4_100);
+        let frame = Frame::to(A).bytes();
+        let told = frame_number(&image, &ledger, port as u32, 0, &frame);
+        expect(tally, "38 frames of a port", side, told, number);
+        let other = frame_number(&image, &ledger, (port as u32 + 1) % 5, 0, &frame);
+        tally.result(same("38 is of this port", other, 0));
+        if side == Side::Refused {
+            tally.refusal(38);
+        }
+    }
+}
+
+/// The verdict on one frame to A on port 0, as a drop number, 0 where sent.
+fn drop_number(tally: &mut Tally, image: &[u32], ledger: &Ledger, bytes: usize) -> (u32, Ledger) {
+    let frame = Frame::to(A).length(bytes).bytes();
+    let (answer, after) = judge(image, *ledger, 0, ledger.last_time, &frame);
+    let number = match answer {
+        FrameAnswer::Drop(number) => number,
+        FrameAnswer::Sent(_) => 0,
+        FrameAnswer::Refused(number) => 1000 + number,
+    };
+    if (1..=11).contains(&number) {
+        tally.drop(number);
+    }
+    (number, after)
+}
+
+/// Drop 9 by one millionth of a bit: L x 8,000,000 is enough and all spent, one less stays.
+fn credits(rng: &mut Rng, tally: &mut Tally) {
+    let mut lists = open();
+    lists.put(policing::RATE, 0, 0);
+    let image = loaded(&lists);
+    let bytes = rng.between(60, 1514);
+    let price = (bytes + 4) * 8_000_000;
+    for (credit, side, number, left) in [
+        (price, Side::Passes, 0, 0),
+        (price - 1, Side::Refused, 9, price - 1),
+    ] {
+        let mut ledger = fresh(&image);
+        ledger.meters[0].credit = credit;
+        ledger.last_time = rng.below(LAST_TIME);
+        let (told, after) = drop_number(tally, &image, &ledger, bytes as usize);
+        let got = (told, after.meters[0].credit, after.meters[0].time);
+        let expected = (number, left, ledger.last_time);
+        expect(tally, "drop 9 credit", side, got, expected);
+    }
+}
+
+/// Drop 7 by SHARINDX, in an edited image: count - 1 and count.
+fn shared_entries(rng: &mut Rng, tally: &mut Tally) {
+    let entries = rng.between(1, 45);
+    for (shared, side, number) in [
+        (entries - 1, Side::Passes, 0),
+        (entries, Side::Refused, 7),
+        (63, Side::Refused, 7),
+    ] {
+        let mut image = loaded(&open());
+        image[count_place(Table::L2Policing)] = entries as u32;
+        let first = start_of(Table::L2Policing);
+        put_field(&mut image[first..first + 2], policing::SHARINDX, shared);
+        let ledger = fresh(&image);
+        let (told, _) = drop_number(tally, &image, &ledger, 60);
+        expect(tally, "drop 7 SHARINDX", side, told, number);
+    }
+}
