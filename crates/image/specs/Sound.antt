@@ -4,7 +4,7 @@ use mathlib.Core.Bool.{Bool, true, false, cond, not}
 use mathlib.Core.List.{List, [], _∷_}
 use Prim.Native.Nat.{ℕ, zero, suc, _+_, _<_, _≤_}
 use native.Mathlib.Nat.{add-zero, zero-add, add-suc, suc-add, le-of-suc-le-suc, not-suc-le-zero, pos-of-ne-zero}
-use lib.Dec.{ltb, eqb}
+use lib.Dec.{ltb, eqb, lit<}
 use lib.ListN.{length, getD}
 use borrow.Author.Tests.{ltb-false, eqb-true, eqb-false, not-false}
 use Rattle.laws.specs.Chain.{none-first, none-rest}
@@ -29,6 +29,30 @@ from k (r ∷ rs) image e (suc j) h =
 pub within-limits : (image : List ℕ) → overLimit image ≡ false → Within image
 unfolding overLimit
 within-limits image e k h = subst (λ (m : ℕ). countOf image m ≤ mostOf k) (zero-add k) (from 0 rows image e k h)
+
+-- a buffer with an image whose counts are all within their limits, each count by its table's name
+pub record Bounded (buffer : List ℕ) : Type 0 where
+  pub whole : imageWords ≤ length buffer
+  pub addresses : countOf (imageIn buffer) 0 ≤ 1024
+  pub policers : countOf (imageIn buffer) 1 ≤ 45
+  pub vlans : countOf (imageIn buffer) 2 ≤ 4096
+  pub forwardings : countOf (imageIn buffer) 3 ≤ 13
+  pub ports : countOf (imageIn buffer) 4 ≤ 5
+  pub lookups : countOf (imageIn buffer) 5 ≤ 1
+  pub spaces : countOf (imageIn buffer) 6 ≤ 1
+
+pub bounded : (buffer : List ℕ) → imageWords ≤ length buffer → Within (imageIn buffer) → Bounded buffer
+bounded buffer h w =
+    record {
+      whole = h;
+      addresses = w 0 (lit< tt);
+      policers = w 1 (lit< tt);
+      vlans = w 2 (lit< tt);
+      forwardings = w 3 (lit< tt);
+      ports = w 4 (lit< tt);
+      lookups = w 5 (lit< tt);
+      spaces = w 6 (lit< tt);
+    }
 
 -- what rule 20 asks for is there
 pub record Complete (image : List ℕ) : Type 0 where
@@ -55,9 +79,8 @@ complete image e =
 
 -- a buffer with an image that 31 and 30 do not refuse
 pub record Sound (buffer : List ℕ) : Type 0 where
-  pub whole : imageWords ≤ length buffer
   pub marked : markOf (imageIn buffer) ≡ 1
-  pub within : Within (imageIn buffer)
+  pub within : Bounded buffer
   pub has : Complete (imageIn buffer)
 
 pub sound : (buffer : List ℕ) → imageWords ≤ length buffer → notLoaded (imageIn buffer) ≡ false → Sound buffer
@@ -65,8 +88,7 @@ unfolding notLoaded
 sound buffer h e =
     let e2 = none-rest (not (eqb (markOf (imageIn buffer)) 1)) _ e in
     record {
-      whole = h;
       marked = eqb-true _ 1 (not-false _ (none-first (not (eqb (markOf (imageIn buffer)) 1)) _ e));
-      within = within-limits (imageIn buffer) (none-first (overLimit (imageIn buffer)) _ e2);
+      within = bounded buffer h (within-limits (imageIn buffer) (none-first (overLimit (imageIn buffer)) _ e2));
       has = complete (imageIn buffer) (none-rest (overLimit (imageIn buffer)) _ e2);
     }

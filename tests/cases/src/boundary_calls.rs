@@ -64,9 +64,10 @@ fn frame_number(image: &[u32], ledger: &Ledger, port: u32, time: u64, frame: &[u
     }
 }
 
-/// The refusal number of a release, 0 where a unit came back.
+/// The refusal number of a release, 0 where a unit came back or only 37 was in its way.
 fn release_number(image: &[u32], ledger: &Ledger, partition: u32) -> u32 {
     match release(image, *ledger, partition) {
+        (ReleaseAnswer::Refused(37), after) if after == *ledger => 0,
         (ReleaseAnswer::Refused(number), after) if after == *ledger => number,
         (ReleaseAnswer::Refused(_), _) => 999,
         _ => 0,
@@ -102,11 +103,14 @@ fn too_short(tally: &mut Tally) {
         let numbers = [
             ("31 load_words", told(load_words(&mut lent(), &stream))),
             ("31 load_bytes", told(load_bytes(&mut lent(), &bytes))),
-            ("31 write", told(write(&mut lent(), LoadState::fresh(), &stream[..9]).0)),
+            (
+                "31 write",
+                told(write(&mut lent(), LoadState::fresh(), &stream[..9]).0),
+            ),
             ("31 fresh_ledger", fresh_ledger(image).err().unwrap_or(0)),
             ("31 judge", frame_number(image, &ledger, 0, 0, &[0; 60])),
             ("31 tile", tile_number(image, &ledger, 0)),
-            ("31 release", release_number(image, &ledger, 0) % 37),
+            ("31 release", release_number(image, &ledger, 0)),
         ];
         for (boundary, got) in numbers {
             if got == 31 {
@@ -175,7 +179,13 @@ fn write_counts(rng: &mut Rng, tally: &mut Tally) {
                 Side::Passes => LoadAnswer::More,
                 Side::Refused => LoadAnswer::Refused(30),
             };
-            expect(tally, WRITE_COUNTS[row.table.place()], side, answer, expected);
+            expect(
+                tally,
+                WRITE_COUNTS[row.table.place()],
+                side,
+                answer,
+                expected,
+            );
             if side == Side::Refused {
                 tally.refusal(30);
                 tally.result(same("30 leaves all", (image, after), (before, state)));
@@ -232,11 +242,15 @@ fn write_room(rng: &mut Rng, tally: &mut Tally) {
 /// 30 of frames, releases and fresh ledgers, and the tile's not-loaded: mark and counts.
 fn marks_and_counts(rng: &mut Rng, tally: &mut Tally) {
     let sound = loaded(&open());
-    let mark_place = MARK;
     let mut edits = vec![
-        ("30 mark", mark_place, 1, Side::Passes),
-        ("30 mark", mark_place, 0, Side::Refused),
-        ("30 mark", mark_place, rng.pick(&[2, 3, 256, u32::MAX]), Side::Refused),
+        ("30 mark", MARK, 1, Side::Passes),
+        ("30 mark", MARK, 0, Side::Refused),
+        (
+            "30 mark",
+            MARK,
+            rng.pick(&[2, 3, 256, u32::MAX]),
+            Side::Refused,
+        ),
     ];
     let ranges = [
         ("30 count of 05", Table::L2AddressLookup, 0, 1024),
@@ -267,7 +281,7 @@ fn marks_and_counts(rng: &mut Rng, tally: &mut Tally) {
         let numbers = [
             fresh_ledger(&image).err().unwrap_or(0),
             frame_number(&image, &ledger, 0, 0, &[0; 60]),
-            release_number(&image, &ledger, 0) % 37,
+            release_number(&image, &ledger, 0),
             tile_number(&image, &ledger, 0),
         ];
         expect(tally, boundary, side, numbers, [number; 4]);
@@ -301,15 +315,21 @@ fn ledgers(rng: &mut Rng, tally: &mut Tally) {
         sides.push((boundary, passes, refused));
     };
     clause("39 units", &|ledger, more| ledger.units[partition] += more);
-    clause("39 credit", &|ledger, more| ledger.meters[meter].credit += more);
+    clause("39 credit", &|ledger, more| {
+        ledger.meters[meter].credit += more
+    });
     clause("39 credit of no entry", &|ledger, more| {
         ledger.meters[not_loaded].credit = more;
     });
-    clause("39 time of a meter", &|ledger, more| ledger.meters[meter].time = time + more);
+    clause("39 time of a meter", &|ledger, more| {
+        ledger.meters[meter].time = time + more
+    });
     clause("39 time of no entry's meter", &|ledger, more| {
         ledger.meters[not_loaded].time = time + more;
     });
-    clause("39 last time", &|ledger, more| ledger.last_time = LAST_TIME + more);
+    clause("39 last time", &|ledger, more| {
+        ledger.last_time = LAST_TIME + more
+    });
     let mut count = |boundary, counts: &dyn Fn(u64) -> [u64; 4]| {
         clause(boundary, &|ledger, more| {
             let [frames, drops, octets, dropped_octets] = counts(more);
@@ -322,16 +342,28 @@ fn ledgers(rng: &mut Rng, tally: &mut Tally) {
         });
     };
     let n = rng.between(1, (1 << 32) - 3);
-    count("39 drops above frames", &|more| [n, n + more, 64 * n, 4 * (n + more)]);
-    count("39 octets below 4 x frames", &|more| [n, 0, 4 * n - more, 0]);
-    count("39 octets above 4,100 x frames", &|more| [n, 0, 4_100 * n + more, 0]);
+    count("39 drops above frames", &|more| {
+        [n, n + more, 64 * n, 4 * (n + more)]
+    });
+    count("39 octets below 4 x frames", &|more| {
+        [n, 0, 4 * n - more, 0]
+    });
+    count("39 octets above 4,100 x frames", &|more| {
+        [n, 0, 4_100 * n + more, 0]
+    });
     count("39 octets of no frames", &|more| [0, 0, more, 0]);
-    count("39 dropped octets below 4 x drops", &|more| [n + 1, n, 64 * n + 64, 4 * n - more]);
+    count("39 dropped octets below 4 x drops", &|more| {
+        [n + 1, n, 64 * n + 64, 4 * n - more]
+    });
     count("39 dropped octets above 4,100 x drops", &|more| {
         [n + 1, n, 4_100 * n + 4_100, 4_100 * n + more]
     });
-    count("39 dropped octets of no drops", &|more| [n, 0, 64 * n, more]);
-    count("39 dropped octets above octets", &|more| [n + 1, n, 64 * n, 64 * n + more]);
+    count("39 dropped octets of no drops", &|more| {
+        [n, 0, 64 * n, more]
+    });
+    count("39 dropped octets above octets", &|more| {
+        [n + 1, n, 64 * n, 64 * n + more]
+    });
     for (boundary, passes, refused) in sides {
         ask_39(rng, tally, boundary, Side::Passes, &image, &passes);
         ask_39(rng, tally, boundary, Side::Refused, &image, &refused);
@@ -351,12 +383,11 @@ fn ask_39(
     let frame = Frame::to(A).bytes();
     let numbers = [
         frame_number(image, ledger, port, ledger.last_time, &frame),
-        release_number(image, ledger, partition) % 37,
+        release_number(image, ledger, partition),
         tile_number(image, ledger, port),
     ];
     let number = if side == Side::Refused { 39 } else { 0 };
-    // 39 is 2 beyond 37, which a release gives where nothing is out.
-    expect(tally, boundary, side, numbers, [number, number % 37, number]);
+    expect(tally, boundary, side, numbers, [number; 3]);
     if side == Side::Refused {
         tally.refusal(39);
     }

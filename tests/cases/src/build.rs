@@ -148,11 +148,7 @@ pub fn with_address(lists: Lists, address: Address) -> Lists {
     lists.put(address_lookup::VLANID, number, address.vlan);
     lists.put(address_lookup::MACADDR, number, address.address);
     lists.put(address_lookup::DESTPORTS, number, address.ports);
-    lists.put(
-        address_lookup::ENFPORT,
-        number,
-        u64::from(address.enforced),
-    );
+    lists.put(address_lookup::ENFPORT, number, u64::from(address.enforced));
     lists.put(address_lookup::INDEX, number, address.index);
     lists
 }

@@ -270,7 +270,9 @@ pub fn break_rule(rng: &mut Rng, lists: &mut Lists, rule: u32) {
             let used: Vec<u64> = (0..lists.of(Table::VlanLookup).len())
                 .map(|number| lists.get(vlan_lookup::VLANID, number))
                 .collect();
-            let absent = (0..4096).filter(|vlan| !used.contains(vlan)).collect::<Vec<u64>>();
+            let absent = (0..4096)
+                .filter(|vlan| !used.contains(vlan))
+                .collect::<Vec<u64>>();
             let vlan = rng.pick(&absent);
             lists.put(mac_configuration::VLANID, rng.place(5), vlan);
         }

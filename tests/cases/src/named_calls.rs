@@ -7,38 +7,88 @@ use reference::k;
 use reference::ledger::{fresh_ledger, no_ledger, Ledger, METERS};
 use reference::load::{load_bytes, load_words, write, LoadAnswer, LoadState};
 use reference::stream::{plain_stream, Lists};
-use reference::tables::{address_lookup, policing, put_field, vlan_lookup, Table};
+use reference::tables::{
+    address_lookup, mac_configuration, policing, put_field, vlan_lookup, Table,
+};
 use reference::tile::{tile, TileAnswer};
 
-use crate::build::{open, with_address, with_vlan, Address, Frame, A, C};
+use crate::build::{open, with_address, with_vlan, Address, Frame, A, B, C};
+use crate::edit::put_part_spc;
 
 pub type CallCase = (&'static str, &'static str, fn() -> Result<(), String>);
 
 const WRITES: &str = "decisions, Writes and the load state";
 const FRAMES: &str = "decisions, Frames";
 
-pub const CASES: [CallCase; 24] = [
-    ("count_rises_with_the_checksum", WRITES, count_rises_with_the_checksum),
-    ("data_stands_behind_the_counted_entries", WRITES, data_stands_in_place),
+pub const CASES: [CallCase; 27] = [
+    (
+        "count_rises_with_the_checksum",
+        WRITES,
+        count_rises_with_the_checksum,
+    ),
+    (
+        "data_stands_behind_the_counted_entries",
+        WRITES,
+        data_stands_in_place,
+    ),
     ("first_write_zeroes", WRITES, first_write_zeroes),
-    ("refused_first_writes_begin_nothing", WRITES, refused_first_writes_begin_nothing),
+    (
+        "refused_first_writes_begin_nothing",
+        WRITES,
+        refused_first_writes_begin_nothing,
+    ),
     ("order_31_30_32", WRITES, order_31_30_32),
     ("30_leaves_all_and_goes_on", WRITES, refusal_30_goes_on),
-    ("30_comes_before_a_repeated_answer", WRITES, refusals_before_a_repeated_answer),
-    ("30_is_not_for_first_writes_and_whole_loads", WRITES, no_30_at_the_start),
-    ("repeated_answer_writes_nothing", WRITES, repeated_answer_writes_nothing),
+    (
+        "30_comes_before_a_repeated_answer",
+        WRITES,
+        refusals_before_a_repeated_answer,
+    ),
+    (
+        "30_is_not_for_first_writes_and_whole_loads",
+        WRITES,
+        no_30_at_the_start,
+    ),
+    (
+        "repeated_answer_writes_nothing",
+        WRITES,
+        repeated_answer_writes_nothing,
+    ),
     ("words_behind_the_answer", WRITES, words_behind_the_answer),
     ("state_behind_an_answer", WRITES, state_behind_an_answer),
     ("more_is_never_marked", WRITES, more_is_never_marked),
-    ("refused_leaves_zeros_and_the_rest", WRITES, refused_leaves_zeros),
+    (
+        "refused_leaves_zeros_and_the_rest",
+        WRITES,
+        refused_leaves_zeros,
+    ),
     ("9_and_31_leave_all", WRITES, refusals_9_and_31_leave_all),
     ("layout_of_the_image", WRITES, layout_of_the_image),
     ("mark_is_exactly_1", WRITES, mark_is_exactly_1),
+    (
+        "an_edit_in_range_is_believed",
+        WRITES,
+        an_edit_in_range_is_believed,
+    ),
+    (
+        "30_looks_at_mark_and_counts_only",
+        FRAMES,
+        rules_21_to_25_are_not_asked_again,
+    ),
+    (
+        "drops_1_to_8_leave_the_meters",
+        FRAMES,
+        early_drops_leave_the_meters,
+    ),
     ("first_of_twin_vlans", FRAMES, first_of_twin_vlans),
     ("first_of_twin_indexes", FRAMES, first_of_twin_indexes),
     ("sharindx_63_is_drop_7", FRAMES, sharindx_63_is_drop_7),
     ("entries_beyond_a_count", FRAMES, entries_beyond_a_count),
-    ("0d_beyond_its_count", FRAMES, lookup_parameters_beyond_their_count),
+    (
+        "0d_beyond_its_count",
+        FRAMES,
+        lookup_parameters_beyond_their_count,
+    ),
     ("order_of_frame_refusals", FRAMES, order_of_frame_refusals),
     ("order_of_tile_answers", FRAMES, order_of_tile_answers),
     ("no_ledger_is_39_everywhere", FRAMES, no_ledger_is_39),
@@ -88,7 +138,11 @@ fn count_rises_with_the_checksum() -> Result<(), String> {
 fn data_stands_in_place() -> Result<(), String> {
     let (image, state) = begun(6);
     let place = start_of(Table::L2Policing);
-    same("words placed", &image[place..place + 3], &[0x02F7_0000, 0x03FF_FFE8, 0])?;
+    same(
+        "words placed",
+        &image[place..place + 3],
+        &[0x02F7_0000, 0x03FF_FFE8, 0],
+    )?;
     same("placed", state.placed, 2)?;
     same("due", state.due, 88)
 }
@@ -102,7 +156,11 @@ fn first_write_zeroes() -> Result<(), String> {
 fn refused_first_writes_begin_nothing() -> Result<(), String> {
     let fresh = LoadState::fresh();
     let mut short = vec![7; IMAGE_WORDS - 1];
-    same("31", write(&mut short, fresh, &[1]), (LoadAnswer::Refused(31), fresh))?;
+    same(
+        "31",
+        write(&mut short, fresh, &[1]),
+        (LoadAnswer::Refused(31), fresh),
+    )?;
     same("short image", short, vec![7; IMAGE_WORDS - 1])?;
     let mut image = dirty();
     for words in [vec![], vec![0x9E00_030E; 65]] {
@@ -116,10 +174,22 @@ fn order_31_30_32() -> Result<(), String> {
     let (mut image, state) = begun(10);
     image[POLICING_COUNT] = 46;
     let mut short = image[..IMAGE_WORDS - 1].to_vec();
-    same("31 first", write(&mut short, state, &[]).0, LoadAnswer::Refused(31))?;
-    same("30 before 32", write(&mut image, state, &[]).0, LoadAnswer::Refused(30))?;
+    same(
+        "31 first",
+        write(&mut short, state, &[]).0,
+        LoadAnswer::Refused(31),
+    )?;
+    same(
+        "30 before 32",
+        write(&mut image, state, &[]).0,
+        LoadAnswer::Refused(30),
+    )?;
     image[POLICING_COUNT] = 0;
-    same("32 last", write(&mut image, state, &[]).0, LoadAnswer::Refused(32))
+    same(
+        "32 last",
+        write(&mut image, state, &[]).0,
+        LoadAnswer::Refused(32),
+    )
 }
 
 fn refusal_30_goes_on() -> Result<(), String> {
@@ -155,11 +225,23 @@ fn refusals_before_a_repeated_answer() -> Result<(), String> {
         }
         let answer = state.answer.ok_or("no answer")?;
         let mut short = image[..IMAGE_WORDS - 1].to_vec();
-        same("31", write(&mut short, state, &[1]).0, LoadAnswer::Refused(31))?;
-        same("32", write(&mut image, state, &[]).0, LoadAnswer::Refused(32))?;
+        same(
+            "31",
+            write(&mut short, state, &[1]).0,
+            LoadAnswer::Refused(31),
+        )?;
+        same(
+            "32",
+            write(&mut image, state, &[]).0,
+            LoadAnswer::Refused(32),
+        )?;
         same("repeated", write(&mut image, state, &[1]), (answer, state))?;
         image[image::FIRST_COUNT] = 1025;
-        same("30", write(&mut image, state, &[1]).0, LoadAnswer::Refused(30))?;
+        same(
+            "30",
+            write(&mut image, state, &[1]).0,
+            LoadAnswer::Refused(30),
+        )?;
     }
     Ok(())
 }
@@ -171,7 +253,11 @@ fn no_30_at_the_start() -> Result<(), String> {
     let told = write(&mut image, LoadState::fresh(), &stream[..64]).0;
     same("first write", told, LoadAnswer::More)?;
     let mut image = dirty();
-    same("whole load", load_words(&mut image, &stream), LoadAnswer::Loaded)
+    same(
+        "whole load",
+        load_words(&mut image, &stream),
+        LoadAnswer::Loaded,
+    )
 }
 
 fn repeated_answer_writes_nothing() -> Result<(), String> {
@@ -195,7 +281,11 @@ fn words_behind_the_answer() -> Result<(), String> {
     let (mut image, state) = begun(192);
     let mut last = stream[192..].to_vec();
     last.extend([0xFFFF_FFFF; 20]);
-    same("loaded", write(&mut image, state, &last).0, LoadAnswer::Loaded)?;
+    same(
+        "loaded",
+        write(&mut image, state, &last).0,
+        LoadAnswer::Loaded,
+    )?;
     same("image", &image[..IMAGE_WORDS], &loaded(&k::lists())[..])
 }
 
@@ -233,7 +323,11 @@ fn refused_leaves_zeros() -> Result<(), String> {
     make_zero(&mut expected);
     same("zeros", &image, &expected)?;
     let mut image = dirty();
-    same("10", load_words(&mut image, &stream[..120]), LoadAnswer::Refused(10))?;
+    same(
+        "10",
+        load_words(&mut image, &stream[..120]),
+        LoadAnswer::Refused(10),
+    )?;
     same("zeros behind 10", &image, &expected)?;
     let mut image = dirty();
     same("10", load_words(&mut image, &[]), LoadAnswer::Refused(10))?;
@@ -245,7 +339,11 @@ fn refusals_9_and_31_leave_all() -> Result<(), String> {
     same("9", load_bytes(&mut image, &[0; 5]), LoadAnswer::Refused(9))?;
     same("image", &image, &dirty())?;
     let mut short = vec![3; IMAGE_WORDS - 1];
-    same("31 before 9", load_bytes(&mut short, &[0; 5]), LoadAnswer::Refused(31))?;
+    same(
+        "31 before 9",
+        load_bytes(&mut short, &[0; 5]),
+        LoadAnswer::Refused(31),
+    )?;
     same("31", load_words(&mut short, &[]), LoadAnswer::Refused(31))?;
     same("short image", short, vec![3; IMAGE_WORDS - 1])
 }
@@ -308,6 +406,87 @@ fn mark_is_exactly_1() -> Result<(), String> {
     Ok(())
 }
 
+/// A count of 07 put to 1 before its block comes: VLAN 1 then stands second, behind a zero entry.
+fn an_edit_in_range_is_believed() -> Result<(), String> {
+    let stream = plain_stream(&k::lists());
+    let (mut image, mut state) = begun(95);
+    image[count_place(Table::VlanLookup)] = 1;
+    for chunk in stream[95..].chunks(64) {
+        state = write(&mut image, state, chunk).1;
+    }
+    same("answer", state.answer, Some(LoadAnswer::Loaded))?;
+    same("count", image[count_place(Table::VlanLookup)], 2)?;
+    let first = start_of(Table::VlanLookup);
+    let expected = [0, 0, 0x0800_0000, 0x003F_F000];
+    same("entries", &image[first..first + 4], &expected)
+}
+
+/// An edited image that rules 21 to 25 would refuse is judged: 30 asks the mark and the counts.
+fn rules_21_to_25_are_not_asked_again() -> Result<(), String> {
+    let lists = with_address(open(), address(C, 1, 3));
+    let mut image = loaded(&with_address(lists, address(C, 1, 4)));
+    for partition in 0..8 {
+        put_part_spc(&mut image, partition, 1023);
+    }
+    put_field(&mut image[3..6], address_lookup::INDEX, 3);
+    let last_port = start_of(Table::MacConfiguration) + 4 * 7;
+    let entry = &mut image[last_port..last_port + 7];
+    put_field(entry, mac_configuration::VLANID, 99);
+    let last_policing = start_of(Table::L2Policing) + 44 * 2;
+    let entry = &mut image[last_policing..last_policing + 2];
+    put_field(entry, policing::SHARINDX, 63);
+    same("judged", ports_or_drop(&image, &Frame::to(A))?, 30)?;
+    let ledger = fresh_ledger(&image).map_err(|number| format!("refused {number}"))?;
+    same("units", ledger.units, [1023; 8])?;
+    // Port 4's VLAN has no entry now, and its broadcasts' SHARINDX none either.
+    let told = judge(&image, ledger, 4, 0, &Frame::to(A).bytes()).0;
+    same("VLAN 99", told, FrameAnswer::Drop(4))?;
+    let told = judge(
+        &image,
+        ledger,
+        4,
+        0,
+        &Frame::broadcast().tagged(0, 1).bytes(),
+    )
+    .0;
+    same("SHARINDX 63", told, FrameAnswer::Drop(7))
+}
+
+/// Drops 1, 2, 3, 4, 5, 6, 7, 8: meters and units are as before, the last time and tile are not.
+fn early_drops_leave_the_meters() -> Result<(), String> {
+    let mut lists = with_address(open(), address(B, 0b00010, 0));
+    lists.put(address_lookup::ENFPORT, 0, 1);
+    lists.put(mac_configuration::INGRESS, 1, 0);
+    lists.put(mac_configuration::DRPUNTAG, 2, 1);
+    lists.put(vlan_lookup::VMEMB_PORT, 0, 0b11011);
+    lists.put(policing::MAXLEN, 24, 63);
+    lists.of_mut(Table::L2Policing).truncate(40);
+    let image = loaded(&lists);
+    let mut ledger = fresh_ledger(&image).map_err(|number| format!("refused {number}"))?;
+    ledger.meters[24].credit = 5;
+    let from_c = |destination| Frame::to(destination).from(C);
+    let asked = [
+        (1, 3, from_c(A).length(59)),
+        (2, 1, from_c(A)),
+        (3, 2, from_c(A)),
+        (4, 0, from_c(A).tagged(0, 9)),
+        (5, 2, from_c(A).tagged(0, 1)),
+        (6, 3, Frame::to(A)),
+        (7, 3, Frame::broadcast().from(C)),
+        (8, 3, from_c(A)),
+    ];
+    for (drop, port, frame) in asked {
+        let (told, after) = judge(&image, ledger, port, 77, &frame.bytes());
+        same("drop", told, FrameAnswer::Drop(drop))?;
+        same("meters", after.meters, ledger.meters)?;
+        same("units", after.units, ledger.units)?;
+        same("last time", after.last_time, 77)?;
+        same("frames", after.ports[port as usize].frames, 1)?;
+        same("drops", after.ports[port as usize].drops, 1)?;
+    }
+    Ok(())
+}
+
 /// The ports a frame is sent to, or the drop as a negative number.
 fn ports_or_drop(image: &[u32], frame: &Frame) -> Result<i64, String> {
     let ledger = fresh_ledger(image).map_err(|number| format!("refused {number}"))?;
@@ -356,7 +535,11 @@ fn entries_beyond_a_count() -> Result<(), String> {
     same("VLAN 2 not counted", ports_or_drop(&image, &tagged)?, -4)?;
     same("A not counted", ports_or_drop(&image, &Frame::to(A))?, 30)?;
     image[count_place(Table::L2Policing)] = 40;
-    same("40 not counted", ports_or_drop(&image, &Frame::broadcast())?, -7)
+    same(
+        "40 not counted",
+        ports_or_drop(&image, &Frame::broadcast())?,
+        -7,
+    )
 }
 
 fn lookup_parameters_beyond_their_count() -> Result<(), String> {
@@ -397,7 +580,11 @@ fn order_of_frame_refusals() -> Result<(), String> {
     same("35", ask(&image, ledger, 0, 10, &long), told(35))?;
     same("38", ask(&image, ledger, 0, 10, &[]), told(38))?;
     // Another port's count does not refuse.
-    same("port 1", ask(&image, ledger, 1, 10, &[]), (FrameAnswer::Drop(1), false))
+    same(
+        "port 1",
+        ask(&image, ledger, 1, 10, &[]),
+        (FrameAnswer::Drop(1), false),
+    )
 }
 
 /// 31, 33, not-loaded, 39: with a bad ledger and port 9 a frame gets 39 and a tile 33.
@@ -411,8 +598,16 @@ fn order_of_tile_answers() -> Result<(), String> {
     let frame = judge(&image, ledger, 9, 0, &[0; 60]).0;
     same("a frame's 39", frame, FrameAnswer::Refused(39))?;
     image[MARK] = 0;
-    same("33 before not-loaded", tile(&image, &ledger, 5), TileAnswer::Refused(33))?;
-    same("not-loaded", tile(&image, &ledger, 4), TileAnswer::NotLoaded)?;
+    same(
+        "33 before not-loaded",
+        tile(&image, &ledger, 5),
+        TileAnswer::Refused(33),
+    )?;
+    same(
+        "not-loaded",
+        tile(&image, &ledger, 4),
+        TileAnswer::NotLoaded,
+    )?;
     image[MARK] = 1;
     same("39", tile(&image, &ledger, 4), TileAnswer::Refused(39))?;
     ledger.last_time = 0;
@@ -430,7 +625,11 @@ fn no_ledger_is_39() -> Result<(), String> {
         same("frame", told, FrameAnswer::Refused(39))?;
         let told = release(&image, no_ledger(), 0).0;
         same("release", told, ReleaseAnswer::Refused(39))?;
-        same("tile", tile(&image, &no_ledger(), 0), TileAnswer::Refused(39))?;
+        same(
+            "tile",
+            tile(&image, &no_ledger(), 0),
+            TileAnswer::Refused(39),
+        )?;
     }
     same("fresh of zeros", fresh_ledger(&[0; IMAGE_WORDS]), Err(30))?;
     same("fresh of few", fresh_ledger(&[0; IMAGE_WORDS - 1]), Err(31))

@@ -110,15 +110,30 @@ tile 4 no-frames
         case("kind_1_alone", List::new().raw(&[1]), &["list refused 52"]),
         case("kind_2_alone", List::new().raw(&[2]), &["list refused 52"]),
         case("frame_cut_by_a_byte", cut_frame, &[sent, "list refused 52"]),
-        case("frame_without_bytes", no_bytes_yet, &[sent, "list refused 52"]),
-        case("kind_9_behind_a_frame", first.clone().raw(&[9]), &[sent, "list refused 53"]),
-        case("kind_9_ends_the_walk", first.clone().raw(&[9]).release(0),
-            &[sent, "list refused 53"]),
+        case(
+            "frame_without_bytes",
+            no_bytes_yet,
+            &[sent, "list refused 52"],
+        ),
+        case(
+            "kind_9_behind_a_frame",
+            first.clone().raw(&[9]),
+            &[sent, "list refused 53"],
+        ),
+        case(
+            "kind_9_ends_the_walk",
+            first.clone().raw(&[9]).release(0),
+            &[sent, "list refused 53"],
+        ),
         Case::of_lists("tiles_behind_53", CUT, &open())
             .list(first.raw(&[3]))
             .output(output),
         // A cut record that would be refused is 52 all the same.
-        case("cut_with_port_9", List::new().raw(&[1, 9, 0]), &["list refused 52"]),
+        case(
+            "cut_with_port_9",
+            List::new().raw(&[1, 9, 0]),
+            &["list refused 52"],
+        ),
     ]
 }
 
@@ -177,7 +192,9 @@ fn records() -> Vec<Case> {
 
 fn call_refusals() -> Vec<Case> {
     let case = |name, list: List, lines: &[&str]| {
-        Case::of_lists(name, REFUSALS, &open()).list(list).lines(lines)
+        Case::of_lists(name, REFUSALS, &open())
+            .list(list)
+            .lines(lines)
     };
     let last = (1 << 48) - 1;
     let (short, long) = (vec![0; 60], vec![0; 4097]);
@@ -191,19 +208,44 @@ fn call_refusals() -> Vec<Case> {
         (policing::PARTITION, 0, 7),
     ]);
     vec![
-        case("33_before_34_and_35",
-            List::new().frame_of(0, 5, &short).frame_of(5, 1 << 48, &long).frame_of(255, 4, &long),
-            &["frame 1 sent 30 vlan 1 prio 0 tags 0 queues 0 0 0 0 0", "refused 33", "refused 33"]),
-        case("34_before_35",
-            List::new().frame_of(0, 1 << 48, &long).frame_of(0, 7, &long),
-            &["refused 34", "refused 35"]),
-        case("4096_bytes_are_judged",
+        case(
+            "33_before_34_and_35",
+            List::new()
+                .frame_of(0, 5, &short)
+                .frame_of(5, 1 << 48, &long)
+                .frame_of(255, 4, &long),
+            &[
+                "frame 1 sent 30 vlan 1 prio 0 tags 0 queues 0 0 0 0 0",
+                "refused 33",
+                "refused 33",
+            ],
+        ),
+        case(
+            "34_before_35",
+            List::new()
+                .frame_of(0, 1 << 48, &long)
+                .frame_of(0, 7, &long),
+            &["refused 34", "refused 35"],
+        ),
+        case(
+            "4096_bytes_are_judged",
             List::new().frame_of(0, 0, &long[1..]).frame_of(0, 0, &long),
-            &["frame 1 drop 8", "refused 35"]),
-        case("last_time",
+            &["frame 1 drop 8", "refused 35"],
+        ),
+        case(
+            "last_time",
             at_the_end,
-            &["frame 1 sent 30 vlan 1 prio 0 tags 0 queues 0 0 0 0 0", "refused 34", "refused 34"]),
-        case("36_before_37", List::new().release(8).release(255), &["refused 36", "refused 36"]),
+            &[
+                "frame 1 sent 30 vlan 1 prio 0 tags 0 queues 0 0 0 0 0",
+                "refused 34",
+                "refused 34",
+            ],
+        ),
+        case(
+            "36_before_37",
+            List::new().release(8).release(255),
+            &["refused 36", "refused 36"],
+        ),
         Case::of_lists("37_is_of_that_partition", REFUSALS, &partitions)
             .list(
                 List::new()

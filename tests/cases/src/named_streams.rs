@@ -131,8 +131,12 @@ fn lengths() -> Vec<Case> {
         Case::of_words("free_bits_are_no_length", LENGTHS, &free_length()).refused(10),
         Case::of_words("0d_twice", LENGTHS, &stream_of(&twice, End::default())).refused(6),
         Case::of_words("08_with_14", LENGTHS, &stream_of(&nine_08, End::default())).refused(6),
-        Case::of_words("entry_in_two_blocks", LENGTHS, &stream_of(&halves, End::default()))
-            .refused(5),
+        Case::of_words(
+            "entry_in_two_blocks",
+            LENGTHS,
+            &stream_of(&halves, End::default()),
+        )
+        .refused(5),
     ]
 }
 
@@ -235,8 +239,18 @@ fn order() -> Vec<Case> {
         Case::of_words("2_before_4", ORDER, &wrong(0x0A, 3)).refused(2),
         Case::of_words("2_before_5", ORDER, &wrong(0x07, 3)).refused(2),
         Case::of_words("2_before_6", ORDER, &wrong(0x07, 8194)).refused(2),
-        Case::of_words("3_whatever_the_length", ORDER, &header_alone(0x13, 0xFF_FFFF)).refused(3),
-        Case::of_words("4_whatever_the_length", ORDER, &header_alone(0x00, 0xFF_FFFF)).refused(4),
+        Case::of_words(
+            "3_whatever_the_length",
+            ORDER,
+            &header_alone(0x13, 0xFF_FFFF),
+        )
+        .refused(3),
+        Case::of_words(
+            "4_whatever_the_length",
+            ORDER,
+            &header_alone(0x00, 0xFF_FFFF),
+        )
+        .refused(4),
         Case::of_words("5_before_6_in_05", ORDER, &header_alone(0x05, 3074)).refused(5),
         Case::of_words("6_in_05", ORDER, &header_alone(0x05, 3075)).refused(6),
         Case::of_words("7_before_the_next_block", ORDER, &two_blocks).refused(7),
@@ -264,11 +278,19 @@ fn free() -> Vec<Case> {
     split.push(parts.remove(1));
     split.insert(0, parts.remove(0));
     vec![
-        Case::of_words("blocks_reversed", FREE, &stream_of(&reversed, End::default()))
-            .output(k::OUTPUT),
+        Case::of_words(
+            "blocks_reversed",
+            FREE,
+            &stream_of(&reversed, End::default()),
+        )
+        .output(k::OUTPUT),
         Case::of_words("free_bits_set", FREE, &stream_of(&free_bits, odd_end)).output(k::OUTPUT),
-        Case::of_words("08_split_around_others", FREE, &stream_of(&split, End::default()))
-            .output(k::OUTPUT),
+        Case::of_words(
+            "08_split_around_others",
+            FREE,
+            &stream_of(&split, End::default()),
+        )
+        .output(k::OUTPUT),
         Case::of_words("one_entry_a_block", FREE, &one_entry_a_block(&k::lists()))
             .output(k::OUTPUT),
     ]
@@ -321,7 +343,11 @@ fn rules() -> Vec<Case> {
         let name = format!("20_without_{:02x}", row.id);
         let case = Case::of_lists(&name, "document 01, rule 20", &lists);
         let optional = row.id == 0x05 || row.id == 0x0D;
-        cases.push(if optional { case.loaded() } else { case.refused(20) });
+        cases.push(if optional {
+            case.loaded()
+        } else {
+            case.refused(20)
+        });
     }
     cases
 }

@@ -94,6 +94,24 @@ fn endless_files_come_to_an_end() {
     assert!(printed.starts_with("config loaded\nlist refused 54\ntile 0 no-frames\n"));
 }
 
+/// Counted up to 2^32 bytes; past them 9 is not asked and the writes' answer decides.
+#[test]
+fn the_counting_budget() {
+    let stream = k_stream();
+    let zeros = |bytes: u64| (&stream[..]).chain(io::repeat(0)).take(bytes);
+    let endless = run(
+        &|| Ok((&stream[..]).chain(io::repeat(0))),
+        &mut &k::list()[..],
+    );
+    assert_eq!(endless, k::OUTPUT);
+    let odd_past = run(&|| Ok(zeros((1 << 32) + 1)), &mut &k::list()[..]);
+    assert_eq!(odd_past, k::OUTPUT);
+    let odd_within = run(&|| Ok(zeros((1 << 32) - 1)), &mut &k::list()[..]);
+    assert_eq!(odd_within, refused(9));
+    let whole = run(&|| Ok(zeros(1 << 32)), &mut &k::list()[..]);
+    assert_eq!(whole, k::OUTPUT);
+}
+
 /// Bytes one at a time, then an error.
 struct BreaksOff<'a> {
     left: &'a [u8],

@@ -1,0 +1,2 @@
+-- What is looked up in the tables of a loaded image.
+pub mod Vlan

@@ -1,0 +1,11 @@
+-- The entry of 07 for a VLAN (document 01, drop 4 and rule 22).
+use mathlib.Core.List.{List}
+use Prim.Native.Nat.{ℕ}
+use lib.Dec.{eqb}
+use Rattle.laws.specs.Scan.{first}
+use Rattle.image.specs.Layout.{countOf}
+use Rattle.image.specs.Fields.{vlanid}
+
+-- "in an edited image the first of two 07 entries with one VLANID counts"; the count of 07 where there is none
+abbrev pub vlanAt : List ℕ → ℕ → ℕ
+vlanAt image v = first (countOf image 2) (λ i. eqb (vlanid image i) v)

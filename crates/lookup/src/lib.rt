@@ -1,0 +1,2 @@
+// Searches in the tables of an image.
+pub mod vlan;

@@ -1,0 +1,78 @@
+//! `cases check`: runs everything through the reference and says what was hit and what failed.
+
+use crate::case::Case;
+use crate::rng::Rng;
+use crate::tally::Tally;
+use crate::{boundaries, boundary_calls, generate, named_calls, named_frames, named_program};
+use crate::{named_streams, properties};
+
+/// Named cases, fixed damage, and so many seeded rounds; true where nothing is missing or wrong.
+pub fn check(seed: u64, rounds: usize) -> bool {
+    println!("seed {seed}, {rounds} rounds");
+    let mut tally = Tally::default();
+    let named = named();
+    named.iter().for_each(|case| tally.run(case));
+    fixed().iter().for_each(|case| tally.run(case));
+    for (name, clause, run) in named_calls::CASES {
+        tally.result(run().map_err(|failure| format!("{name} ({clause}): {failure}")));
+    }
+    println!(
+        "{} named cases, {} of them calls",
+        named.len() + named_calls::CASES.len(),
+        named_calls::CASES.len()
+    );
+    let mut rng = Rng::new(seed);
+    for round in 0..rounds {
+        properties::run(&mut rng, &mut tally);
+        tally.run(&generated(&mut rng, round));
+        if round % 8 == 0 {
+            boundary_calls::run(&mut rng, &mut tally);
+            boundaries::cases(&mut rng)
+                .iter()
+                .for_each(|case| tally.run(case));
+        }
+    }
+    tally.print();
+    finish(tally)
+}
+
+/// Every named case that has a stream and a list.
+pub fn named() -> Vec<Case> {
+    let mut cases = named_program::cases();
+    cases.extend(named_streams::cases());
+    cases.extend(named_frames::cases());
+    cases
+}
+
+/// Damage and arrangements that need no seed.
+pub fn fixed() -> Vec<Case> {
+    let mut cases = boundaries::arrangements();
+    cases.extend(boundaries::damaged());
+    cases.extend(boundaries::cut_lists());
+    cases
+}
+
+/// A generated stream and list: any answer, the same from both programs.
+pub fn generated(rng: &mut Rng, number: usize) -> Case {
+    let profile = match rng.below(16) {
+        0 => generate::Profile::Wild,
+        1..=3 => generate::Profile::Valid,
+        4 => generate::Profile::Breaks(rng.between(20, 25) as u32),
+        _ => generate::Profile::Near,
+    };
+    let lists = generate::random_config(rng, profile);
+    let stream = generate::random_stream(rng, &lists);
+    let list = generate::random_list(rng);
+    Case::of_bytes(&format!("generated_{number}"), "compared only", stream).list_bytes(list)
+}
+
+/// Prints what is missing and wrong; the last line counts.
+fn finish(tally: Tally) -> bool {
+    let mut failures = tally.failures.clone();
+    failures.extend(tally.missed());
+    for failure in failures.iter().take(20) {
+        println!("FAILED {failure}");
+    }
+    println!("{} passed, {} failed", tally.passed, failures.len());
+    failures.is_empty()
+}
