@@ -1,13 +1,15 @@
 -- Laws of CRC-32: what a run in parts gives, the range of a register, linearity over exclusive or, and a word or four as bits that leave.
 use mathlib.Core.Path.{_≡_, refl, sym, ap, ap₂, _∙_, subst}
 use mathlib.Core.List.{List, [], _∷_, _++_}
-use Prim.Native.Nat.{ℕ, zero, suc, _+_, _*_, _/_, _%_, _^_, _<_}
+use Prim.Native.Nat.{ℕ, zero, suc, _+_, _*_, _/_, _%_, _^_, _≤_, _<_}
 use native.Mathlib.Nat.{mod-lt, mod-eq-of-lt, mul-one, zero-add, suc-add, add-comm}
 use native.Mathlib.Omega.{arith}
 use lib.Dec.{lit<}
 use lib.Pow.{pow-pos, mod-pow-add}
 use lib.Bits.{bitXor, differ, xor-lt, xor-comm, xor-self, xor-zero-r, xor-mod, xor-shr, xor-shifted, shifted-even, shifted-half}
-use lib.ListN.{length}
+use lib.ListN.{length, getD, drop}
+use lib.Seq.{drop-cons}
+use native.Mathlib.Numerals.{add-one}
 use Rattle.crc.specs.Crc.{bit, bitsOut, byteIn, bytesIn, bytesOf, wordIn, wordsIn, start, finished, checksum}
 use Rattle.crc.specs.Xor.{odd-lt, xor-odd, xor-half, xor-assoc, xor-pairs}
 
@@ -205,3 +207,17 @@ pub wordsIn-four : (r v w x y : ℕ) → v < 2 ^ 32 → w < 2 ^ 32 → x < 2 ^ 3
     → wordsIn r (v ∷ w ∷ x ∷ y ∷ []) ≡ bitXor (bitXor (bitXor (bitsOut 128 (bitXor r v)) (bitsOut 96 w)) (bitsOut 64 x)) (bitsOut 32 y)
 unfolding wordsIn
 wordsIn-four r v w x y hv hw hx hy = simp (wordIn-bits, bitsOut-linear, ← bitsOut-add)
+
+-- ---- a loop over words: what is left of them makes of the register what all of them made of the first
+
+pub wordsIn-more : (r s t : ℕ) (ws : List ℕ) (i : ℕ) → i < length ws → s ≡ wordIn r (getD ws i 0) → wordsIn r (drop i ws) ≡ t
+    → wordsIn s (drop (i + 1) ws) ≡ t
+unfolding wordsIn
+wordsIn-more r s t ws i h e p = rw (add-one, e) (rw (drop-cons ws i 0 h) at p)
+
+pub wordsIn-done : (r t : ℕ) (ws : List ℕ) (i : ℕ) → length ws ≤ i → wordsIn r (drop i ws) ≡ t → r ≡ t
+unfolding wordsIn
+wordsIn-done r t [] zero h p = p
+wordsIn-done r t [] (suc i) h p = p
+wordsIn-done r t (w ∷ ws) zero h p = absurd (omega arith)
+wordsIn-done r t (w ∷ ws) (suc i) h p = wordsIn-done r t ws i (omega arith) p
