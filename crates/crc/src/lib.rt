@@ -1,7 +1,7 @@
 // CRC-32 of IEEE 802.3 over 32-bit words, each word's low byte first: the plain loops, which need no table.
 // One word, a header or the few words that a run by table leaves over are quickest here; long runs have their own crates.
 ghost use mathlib.Core.Path.{_≡_};
-ghost use Rattle.crc.specs.Crc.{bit, wordIn, wordsIn, finished, checksum};
+ghost use Rattle.crc.specs.Crc.{bit, bitsOut, byteIn, wordIn, wordsIn, finished, checksum};
 
 // The register before the first word.
 pub const START: u32 = 0xFFFF_FFFF;
@@ -22,17 +22,31 @@ fn bit_out(r: u32) -> u32
     r >> 1
 }
 
+// k bits leave the register.
+fn bits_out(r: u32, k: u32) -> u32
+    ensures { λ x. ⌜ x ≡ bitsOut k r ⌝ }
+{
+    let mut x = r;
+    let mut i: u32 = 0;
+    while i < k {
+        x = bit_out(x);
+        i += 1;
+    }
+    x
+}
+
+// A byte goes in.
+pub fn byte_in(r: u32, b: u8) -> u32
+    ensures { λ x. ⌜ x ≡ byteIn r b ⌝ }
+{
+    bits_out(r ^ (b as u32), 8)
+}
+
 // A word goes in.
 pub fn word_in(r: u32, w: u32) -> u32
     ensures { λ x. ⌜ x ≡ wordIn r w ⌝ }
 {
-    let mut x = r ^ w;
-    let mut k: u32 = 0;
-    while k < 32 {
-        x = bit_out(x);
-        k += 1;
-    }
-    x
+    bits_out(r ^ w, 32)
 }
 
 // A word goes into both.
