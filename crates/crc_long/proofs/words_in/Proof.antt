@@ -1,0 +1,53 @@
+-- `crc_long::words_in` meets its contract. The loop's invariant: what is left of the words makes of x what all of them make of the register.
+use mathlib.Core.Path.{_≡_}
+use Prim.Native.Nat.{_-_, _≤_}
+use lib.ListN.{length, drop}
+use Rattle.crc.specs.Crc.{wordsIn}
+use Rattle.crc_long.specs.Turn.{turn-more, turn-done}
+use borrow.Author.Needs.{needs}
+use Rattle.crc_long.proofs.words_in.Statement.{statement}
+use Rattle.crc_long.proofs.words_in.Tie as tie
+
+abbrev Inv-loop : tie.InvT-loop
+Inv-loop first second third last r words x₀ i₀ x i = (i ≤ length words) × (wordsIn x (drop i words) ≡ wordsIn r words)
+
+abbrev μ-loop : tie.MeasureT-loop
+μ-loop first second third last r words x₀ i₀ x i = length words - i
+
+loop-again : tie.Need-loop-again Inv-loop μ-loop
+loop-again c =
+    let t = c .before .before .before .before .before in
+    (search needs, turn-more _ _ _ (t .before .before .before .args .words .now) (t .before .loop .i) (t .loop-test .taken) (c .turn .ensures) (t .before .loop .inv .1))
+
+returns : tie.Need-returns Inv-loop μ-loop
+returns c = search (needs, turn-done)
+
+pub words-in-spec : {M : Type 1} → statement M
+words-in-spec =
+    tie.close
+    (tie.spec
+    Inv-loop
+    μ-loop
+    (λ c. search needs)
+    (λ c. search needs)
+    (λ c. search needs)
+    (λ c. search needs)
+    (λ c. search needs)
+    (λ c. search needs)
+    (λ c. search needs)
+    (λ c. search needs)
+    (λ c. search needs)
+    (λ c. search needs)
+    (λ c. search needs)
+    (λ c. search needs)
+    (λ c. search needs)
+    (λ c κs. search needs)
+    (λ c. search needs)
+    (λ c. search needs)
+    loop-again
+    (λ c. search needs)
+    (λ c. search needs)
+    (λ c. search needs)
+    (λ c. search needs)
+    (λ c κs. search needs)
+    returns)

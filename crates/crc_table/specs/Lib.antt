@@ -1,0 +1,3 @@
+-- The tables of CRC-32 by sixteen bytes: what each entry is.
+pub mod Table
+pub mod Test

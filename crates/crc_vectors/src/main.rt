@@ -1,0 +1,251 @@
+// Runs every CRC function over outside vectors and prints what each gives. The file stdout holds what other programs compute; vectors.py made it and says how.
+ghost use Rattle.crc_long.specs.Turn.{AreTables};
+use crc::Both;
+use libc::STDOUT_FILENO;
+
+// The smallest configuration that loads, in the shape of the manual's figure 8, with every checksum as Linux's own driver for the chip packed it.
+const STREAM: [u32; 111] = [
+    0x9E00030E,
+    0x06000000,
+    0x00000002,
+    0x406BE242,
+    0x02F70000,
+    0x03FFFFE8,
+    0xB00B545A,
+    0x07000000,
+    0x00000002,
+    0x7D0BCBF2,
+    0x08000000,
+    0x003FF000,
+    0xB848CD44,
+    0x08000000,
+    0x0000001A,
+    0x6AF62353,
+    0x10000000,
+    0xF7BDF58D,
+    0x10000000,
+    0xEF7BF58D,
+    0x10000000,
+    0xDEF7F58D,
+    0x10000000,
+    0xBDEFF58D,
+    0x10000000,
+    0x7BDFF58D,
+    0x00000000,
+    0x00000000,
+    0x92000000,
+    0x00004924,
+    0x24000000,
+    0x00009249,
+    0xB6000000,
+    0x0000DB6D,
+    0x48000000,
+    0x00012492,
+    0xDA000000,
+    0x00016DB6,
+    0x6C000000,
+    0x0001B6DB,
+    0xFE000000,
+    0x0001FFFF,
+    0xE7C6DB7A,
+    0x09000000,
+    0x00000023,
+    0xDAB5BDC8,
+    0x00000406,
+    0x00000000,
+    0x00000000,
+    0x00000000,
+    0x00000000,
+    0x00000000,
+    0x00000000,
+    0x00000406,
+    0x00000000,
+    0x00000000,
+    0x00000000,
+    0x00000000,
+    0x00000000,
+    0x00000000,
+    0x00000406,
+    0x00000000,
+    0x00000000,
+    0x00000000,
+    0x00000000,
+    0x00000000,
+    0x00000000,
+    0x00000406,
+    0x00000000,
+    0x00000000,
+    0x00000000,
+    0x00000000,
+    0x00000000,
+    0x00000000,
+    0x00000406,
+    0x00000000,
+    0x00000000,
+    0x00000000,
+    0x00000000,
+    0x00000000,
+    0x00000000,
+    0x42247106,
+    0x0E000000,
+    0x00000003,
+    0xC8A7CEE6,
+    0x00742000,
+    0x00000000,
+    0x00000000,
+    0x02EB6C5A,
+    0x11000000,
+    0x0000000A,
+    0x571F813F,
+    0x00000000,
+    0x00000000,
+    0x00000000,
+    0x00000000,
+    0x00000000,
+    0x00000000,
+    0x00000000,
+    0x00000000,
+    0x00000000,
+    0x00000000,
+    0xE9EC3DB1,
+    0x4E000000,
+    0x00000001,
+    0x3A5D5E24,
+    0x00000000,
+    0x2144DF1C,
+    0x00000000,
+    0x00000000,
+    0x33328E03,
+];
+
+fn print(value: u32) {
+    io::write_all(STDOUT_FILENO, b" ");
+    io::print_hex(STDOUT_FILENO, value as u64, 8);
+}
+
+fn print_line(name: &[u8], n: usize, value: u32) {
+    io::write_all(STDOUT_FILENO, name);
+    io::print_decimal(STDOUT_FILENO, n as u64);
+    print(value);
+    io::write_all(STDOUT_FILENO, b"\n");
+}
+
+fn print_both(name: &[u8], n: usize, both: Both) {
+    io::write_all(STDOUT_FILENO, name);
+    io::print_decimal(STDOUT_FILENO, n as u64);
+    print(crc::finish(both.block));
+    print(crc::finish(both.stream));
+    io::write_all(STDOUT_FILENO, b"\n");
+}
+
+// Bytes, by themselves: the check value of CRC-32.
+fn run_bytes(bytes: &[u8]) {
+    let mut r = crc::START;
+    let mut i = 0;
+    while i < bytes.len() {
+        r = crc::byte_in(r, bytes[i]);
+        i += 1;
+    }
+    print_line(b"byte_in ", bytes.len(), crc::finish(r));
+}
+
+// The first n words, in every way. The second register of two begins after the word 9E00030E, as a stream's does.
+fn run(
+    first: &[u32; 1024],
+    second: &[u32; 1024],
+    third: &[u32; 1024],
+    last: &[u32; 1024],
+    words: &[u32],
+    n: usize,
+)
+    requires { ⌜ AreTables (now first) (now second) (now third) (now last) ⌝ }
+{
+    if words.len() < n {
+        return;
+    }
+    let run = &words[..n];
+    let both = Both {
+        block: crc::START,
+        stream: crc::word_in(crc::START, 0x9E00_030E),
+    };
+    print_line(b"words_in ", n, crc::finish(crc::words_in(crc::START, run)));
+    print_line(
+        b"long words_in ",
+        n,
+        crc::finish(crc_long::words_in(first, second, third, last, crc::START, run)),
+    );
+    print_both(b"words_in_both ", n, crc::words_in_both(both, run));
+    print_both(
+        b"long words_in_both ",
+        n,
+        crc_long::words_in_both(first, second, third, last, both, run),
+    );
+}
+
+// Every length up to twenty, so that a run by four leaves over each number of words several times; long runs; and a whole stream.
+fn run_words(
+    first: &[u32; 1024],
+    second: &[u32; 1024],
+    third: &[u32; 1024],
+    last: &[u32; 1024],
+    words: &[u32],
+    stream: &[u32],
+)
+    requires { ⌜ AreTables (now first) (now second) (now third) (now last) ⌝ }
+{
+    let mut n = 0;
+    while n < 21 {
+        run(first, second, third, last, words, n);
+        n += 1;
+    }
+    run(first, second, third, last, words, 999);
+    run(first, second, third, last, words, 1000);
+    run(first, second, third, last, stream, 111);
+}
+
+// A thousand words, each the last one times 1,664,525 and 1,013,904,223 more, modulo 2^32.
+fn made() -> [u32; 1000] {
+    let mut words = [0u32; 1000];
+    let mut w: u64 = 1;
+    let mut i = 0;
+    while i < 1000 {
+        w = (w * 1664525 + 1013904223) % 4294967296;
+        words[i] = w as u32;
+        i += 1;
+    }
+    words
+}
+
+// Each block's two checksums and the global one, computed from the words that they cover.
+fn run_stream(stream: &[u32]) {
+    let mut i = 1;
+    while i < stream.len() {
+        if stream.len() - i < 3 {
+            return;
+        }
+        let n = (stream[i + 1] % 16777216) as usize;
+        if n == 0 {
+            print_line(b"global ", i, crc::checksum(&stream[..i + 2]));
+            return;
+        }
+        print_line(b"header ", i, crc::checksum(&stream[i..i + 2]));
+        i += 3;
+        if stream.len() - i <= n {
+            return;
+        }
+        print_line(b"block ", i, crc::checksum(&stream[i..i + n]));
+        i += n + 1;
+    }
+}
+
+fn main() {
+    let first = crc_table::first();
+    let second = crc_table::second();
+    let third = crc_table::third();
+    let last = crc_table::last();
+    let words = made();
+    let stream = STREAM;
+    run_bytes(b"123456789");
+    run_stream(&stream);
+    run_words(&first, &second, &third, &last, &words, &stream);
+}
