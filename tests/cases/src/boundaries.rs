@@ -50,59 +50,31 @@ fn framing(rng: &mut Rng) -> Vec<Case> {
     let mut odd = bytes.clone();
     odd.truncate(bytes.len() - rng.between(1, 3) as usize);
     let good = |name, boundary| {
-        Case::of_words(name, "document 01, framing", &words)
-            .loaded()
-            .passes(boundary)
+        Case::of_words(name, "document 01, framing", &words).loaded().passes(boundary)
     };
     let bad = |name, boundary, words: &[u32], number| {
-        Case::of_words(name, "document 01, framing", words)
-            .refused(number)
-            .beyond(boundary)
+        Case::of_words(name, "document 01, framing", words).refused(number).beyond(boundary)
     };
     vec![
         good("word_0_right", "1 word 0"),
         bad("word_0_differs", "1 word 0", &flip(&words, 0, bit), 1),
         good("header_checksum_right", "2 header checksum"),
-        bad(
-            "header_checksum_wrong",
-            "2 header checksum",
-            &flip(&words, block.start + 2, bit),
-            2,
-        ),
+        bad("header_checksum_wrong", "2 header checksum", &flip(&words, block.start + 2, bit), 2),
         good("data_checksum_right", "7 data checksum"),
-        bad(
-            "data_checksum_wrong",
-            "7 data checksum",
-            &flip(&words, data_word, bit),
-            7,
-        ),
+        bad("data_checksum_wrong", "7 data checksum", &flip(&words, data_word, bit), 7),
         good("global_checksum_right", "8 global checksum"),
-        bad(
-            "global_checksum_wrong",
-            "8 global checksum",
-            &flip(&words, last, bit),
-            8,
-        ),
+        bad("global_checksum_wrong", "8 global checksum", &flip(&words, last, bit), 8),
         good("whole_stream", "10 end block complete"),
-        bad(
-            "one_word_short",
-            "10 end block complete",
-            &words[..last],
-            10,
-        ),
+        bad("one_word_short", "10 end block complete", &words[..last], 10),
         good("whole_words", "9 bytes"),
-        Case::of_bytes("odd_bytes", "document 01, refusal 9", odd)
-            .refused(9)
-            .beyond("9 bytes"),
+        Case::of_bytes("odd_bytes", "document 01, refusal 9", odd).refused(9).beyond("9 bytes"),
     ]
 }
 
 /// Word 0 and a header with its right checksum and some free bits.
 fn header(rng: &mut Rng, id: u8, length: u32) -> Vec<u32> {
-    let header = [
-        u32::from(id) << 24 | (rng.word() & 0x00FF_FFFF),
-        (rng.word() & 0xFF00_0000) | length,
-    ];
+    let header =
+        [u32::from(id) << 24 | (rng.word() & 0x00FF_FFFF), (rng.word() & 0xFF00_0000) | length];
     vec![DEVICE_ID, header[0], header[1], crc::of_words(&header)]
 }
 
@@ -132,10 +104,7 @@ fn ids(rng: &mut Rng) -> Vec<Case> {
         let length = Table::of_id(id).map_or(1, |table| table.words() as u32);
         let words = header(rng, id, length);
         let case = Case::of_words(&format!("neighbour_{id:02x}"), "001, table 2", &words);
-        cases.push(Case {
-            side: Some((boundary, side)),
-            ..case.refused(number)
-        });
+        cases.push(Case { side: Some((boundary, side)), ..case.refused(number) });
     }
     cases
 }
@@ -208,11 +177,7 @@ fn rule_20(rng: &mut Rng) -> Vec<Case> {
         }
         let name = format!("count_{:02x}", table.id());
         let words = rearranged(rng, &lists);
-        cases.push(
-            Case::of_words(&name, "rule 20", &words)
-                .loaded()
-                .passes(boundary),
-        );
+        cases.push(Case::of_words(&name, "rule 20", &words).loaded().passes(boundary));
         lists.of_mut(table).truncate(least - 1);
         let words = rearranged(rng, &lists);
         let case = Case::of_words(&name, "rule 20", &words);
@@ -232,10 +197,7 @@ fn rule_pair(
     let name = format!("rule_{rule}");
     let good = Case::of_words(&name, "loading rules", &rearranged(rng, loads));
     let bad = Case::of_words(&name, "loading rules", &rearranged(rng, refused));
-    vec![
-        good.loaded().passes(boundary),
-        bad.refused(rule).beyond(boundary),
-    ]
+    vec![good.loaded().passes(boundary), bad.refused(rule).beyond(boundary)]
 }
 
 fn rules_21_to_25(rng: &mut Rng) -> Vec<Case> {
@@ -249,10 +211,7 @@ fn rules_21_to_25(rng: &mut Rng) -> Vec<Case> {
     cases.extend(rule_pair(rng, 21, "21 two VLANIDs", &apart, &equal));
     // 22: a port's VLANID that is there, and one bit apart from all that are.
     let port = rng.place(5);
-    let there = with(
-        with_vlan(open(), vlan, 0, 0, 0),
-        &[(mac_configuration::VLANID, port, vlan)],
-    );
+    let there = with(with_vlan(open(), vlan, 0, 0, 0), &[(mac_configuration::VLANID, port, vlan)]);
     let absent = if near == 1 { 0 } else { near };
     let missing = with(there.clone(), &[(mac_configuration::VLANID, port, absent)]);
     cases.extend(rule_pair(rng, 22, "22 a port's VLANID", &there, &missing));
@@ -343,47 +302,21 @@ fn record_refusals(rng: &mut Rng) -> Vec<Case> {
     vec![
         case("port_4", one(4, time), &[flooded(1, 4, 1, 0)]).passes("33 port"),
         case("port_5", one(high_port, time), &[refused(33)]).beyond("33 port"),
-        case(
-            "equal_time",
-            two([time, time]),
-            &[first.clone(), second.clone()],
-        )
-        .passes("34 before the last time"),
-        case(
-            "one_less",
-            two([time, time - 1]),
-            &[first.clone(), refused(34)],
-        )
-        .beyond("34 before the last time"),
+        case("equal_time", two([time, time]), &[first.clone(), second.clone()])
+            .passes("34 before the last time"),
+        case("one_less", two([time, time - 1]), &[first.clone(), refused(34)])
+            .beyond("34 before the last time"),
         case("last_time", two([time, last]), &[first.clone(), second]).passes("34 above 2^48 - 1"),
-        case(
-            "2_to_48",
-            two([time, last + 1]),
-            &[first.clone(), refused(34)],
-        )
-        .beyond("34 above 2^48 - 1"),
-        case(
-            "4096_bytes",
-            of_length(4096),
-            &["frame 1 drop 8".to_string()],
-        )
-        .passes("35 bytes of a frame"),
+        case("2_to_48", two([time, last + 1]), &[first.clone(), refused(34)])
+            .beyond("34 above 2^48 - 1"),
+        case("4096_bytes", of_length(4096), &["frame 1 drop 8".to_string()])
+            .passes("35 bytes of a frame"),
         case("4097_bytes", of_length(4097), &[refused(35)]).beyond("35 bytes of a frame"),
         // Partition 7 has nothing out, so it is 37 and not 36.
         case("partition_7", List::new().release(7), &[refused(37)]).passes("36 partition"),
-        case(
-            "partition_8",
-            List::new().release(partition),
-            &[refused(36)],
-        )
-        .beyond("36 partition"),
-        listed(
-            "one_unit_out",
-            &out,
-            give_back,
-            &[first.clone(), ok.clone()],
-        )
-        .passes("37 units out"),
+        case("partition_8", List::new().release(partition), &[refused(36)]).beyond("36 partition"),
+        listed("one_unit_out", &out, give_back, &[first.clone(), ok.clone()])
+            .passes("37 units out"),
         listed("no_unit_out", &out, twice, &[first, ok, refused(37)]).beyond("37 units out"),
     ]
 }
@@ -393,14 +326,7 @@ fn list_refusals(rng: &mut Rng) -> Vec<Case> {
     let refused = |number: u32| format!("list refused {number}");
     let nothing_out = "refused 37".to_string();
     let case = |name, list: &[u8], lines: &[String]| {
-        listed(
-            name,
-            &open(),
-            List {
-                bytes: list.to_vec(),
-            },
-            lines,
-        )
+        listed(name, &open(), List { bytes: list.to_vec() }, lines)
     };
     let bit = 1 << rng.below(8);
     let mut mark = whole.clone();
@@ -491,46 +417,11 @@ fn early_drops(rng: &mut Rng) -> Vec<Case> {
     let one_tagged = plain().tagged(0, 1);
     let pairs = [
         pair("drop 1 L", 1, (open(), plain()), (open(), short), 1, 0),
-        pair(
-            "drop 2 INGRESS",
-            2,
-            (ingress(1), plain()),
-            (ingress(0), plain()),
-            1,
-            0,
-        ),
-        pair(
-            "drop 3 DRPUNTAG",
-            3,
-            (drpuntag(0), plain()),
-            (drpuntag(1), plain()),
-            1,
-            0,
-        ),
-        pair(
-            "drop 3 tagged",
-            3,
-            (drpuntag(1), one_tagged),
-            (drpuntag(1), plain()),
-            1,
-            0,
-        ),
-        pair(
-            "drop 4 VLAN",
-            4,
-            (known.clone(), tagged.clone()),
-            (unknown, tagged.clone()),
-            vlan,
-            q,
-        ),
-        pair(
-            "drop 5 member",
-            5,
-            (known, tagged.clone()),
-            (not_member, tagged),
-            vlan,
-            q,
-        ),
+        pair("drop 2 INGRESS", 2, (ingress(1), plain()), (ingress(0), plain()), 1, 0),
+        pair("drop 3 DRPUNTAG", 3, (drpuntag(0), plain()), (drpuntag(1), plain()), 1, 0),
+        pair("drop 3 tagged", 3, (drpuntag(1), one_tagged), (drpuntag(1), plain()), 1, 0),
+        pair("drop 4 VLAN", 4, (known.clone(), tagged.clone()), (unknown, tagged.clone()), vlan, q),
+        pair("drop 5 member", 5, (known, tagged.clone()), (not_member, tagged), vlan, q),
     ];
     pairs.into_iter().flat_map(Pair::cases).collect()
 }
@@ -544,18 +435,9 @@ fn enforced_drops(rng: &mut Rng) -> Vec<Case> {
         enforced: true,
         index: rng.below(1024),
     };
-    let has = Address {
-        ports: lacks.ports | 1 << port,
-        ..lacks
-    };
-    let other_vlan = Address {
-        vlan: 1 ^ (1 << rng.below(12)),
-        ..lacks
-    };
-    let open_entry = Address {
-        enforced: false,
-        ..lacks
-    };
+    let has = Address { ports: lacks.ports | 1 << port, ..lacks };
+    let other_vlan = Address { vlan: 1 ^ (1 << rng.below(12)), ..lacks };
+    let open_entry = Address { enforced: false, ..lacks };
     let entry = |address| with_address(open(), address);
     let shared = with_shared_learn(entry(other_vlan));
     let frame = || Frame::to(A);
@@ -595,21 +477,9 @@ fn policing_drops(rng: &mut Rng) -> Vec<Case> {
         lists.of_mut(Table::L2Policing).truncate(entries);
         lists
     };
-    let poor = |smax| {
-        with(
-            maxlen(2047),
-            &[(policing::SMAX, k, smax), (policing::RATE, k, 0)],
-        )
-    };
-    let pair = |boundary, drop, passes, drops| Pair {
-        boundary,
-        drop,
-        port,
-        passes,
-        drops,
-        vlan: 1,
-        q,
-    };
+    let poor = |smax| with(maxlen(2047), &[(policing::SMAX, k, smax), (policing::RATE, k, 0)]);
+    let pair =
+        |boundary, drop, passes, drops| Pair { boundary, drop, port, passes, drops, vlan: 1, q };
     // One entry at least must be loaded.
     let unloaded = k.max(1);
     let mut pairs = vec![
@@ -619,12 +489,7 @@ fn policing_drops(rng: &mut Rng) -> Vec<Case> {
             (maxlen(length), frame(bytes)),
             (maxlen(length - 1), frame(bytes)),
         ),
-        pair(
-            "drop 9 SMAX",
-            9,
-            (poor(length), frame(bytes)),
-            (poor(length - 1), frame(bytes)),
-        ),
+        pair("drop 9 SMAX", 9, (poor(length), frame(bytes)), (poor(length - 1), frame(bytes))),
     ];
     if k > 0 {
         let passes = (loaded(unloaded + 1), frame(60));
@@ -665,29 +530,16 @@ fn metered_pair(rng: &mut Rng, port: u8, q: u16) -> Vec<Case> {
     let lists = open_with(&[(policing::SMAX, k, length), (policing::RATE, k, 64)]);
     let start = rng.below(1 << 40);
     let frame = Frame::to(A).tagged(q, 1).length(length as usize - 4);
-    let list = |elapsed| {
-        List::new()
-            .frame(port, start, &frame)
-            .frame(port, start + elapsed, &frame)
-    };
+    let list =
+        |elapsed| List::new().frame(port, start, &frame).frame(port, start + elapsed, &frame);
     let first = flooded(1, port, 1, q);
     let second = flooded(2, port, 1, q);
     let dropped = "frame 2 drop 9".to_string();
     vec![
-        listed(
-            "meter_reached",
-            &lists,
-            list(8 * length),
-            &[first.clone(), second],
-        )
-        .passes("drop 9 elapsed"),
-        listed(
-            "meter_short",
-            &lists,
-            list(8 * length - 1),
-            &[first, dropped],
-        )
-        .beyond("drop 9 elapsed"),
+        listed("meter_reached", &lists, list(8 * length), &[first.clone(), second])
+            .passes("drop 9 elapsed"),
+        listed("meter_short", &lists, list(8 * length - 1), &[first, dropped])
+            .beyond("drop 9 elapsed"),
     ]
 }
 
@@ -702,51 +554,17 @@ fn late_drops(rng: &mut Rng) -> Vec<Case> {
         open_with(&[(forwarding::FL_DOMAIN, entry, mask), (field, number, value)])
     };
     let cuts = [
-        (
-            "drop 10 REACH_PORT",
-            forwarding::REACH_PORT,
-            entry,
-            mask,
-            31 & !mask,
-        ),
-        (
-            "drop 10 VMEMB_PORT",
-            vlan_lookup::VMEMB_PORT,
-            0,
-            mask,
-            31 & !mask,
-        ),
-        (
-            "drop 10 EGRESS",
-            mac_configuration::EGRESS,
-            usize::from(output),
-            1,
-            0,
-        ),
-        (
-            "drop 10 FL_DOMAIN",
-            forwarding::FL_DOMAIN,
-            entry,
-            mask,
-            1 << port,
-        ),
+        ("drop 10 REACH_PORT", forwarding::REACH_PORT, entry, mask, 31 & !mask),
+        ("drop 10 VMEMB_PORT", vlan_lookup::VMEMB_PORT, 0, mask, 31 & !mask),
+        ("drop 10 EGRESS", mac_configuration::EGRESS, usize::from(output), 1, 0),
+        ("drop 10 FL_DOMAIN", forwarding::FL_DOMAIN, entry, mask, 1 << port),
     ];
     let list = || List::new().frame(port, 0, &Frame::to(A));
     let sent = format!("frame 1 sent {mask} vlan 1 prio 0 tags 0 queues 0 0 0 0 0");
     for (boundary, field, number, passes, drops) in cuts {
-        let good = listed(
-            "one_port",
-            &one_port(field, number, passes),
-            list(),
-            &[sent.clone()],
-        );
+        let good = listed("one_port", &one_port(field, number, passes), list(), &[sent.clone()]);
         let dropped = "frame 1 drop 10".to_string();
-        let bad = listed(
-            "no_port",
-            &one_port(field, number, drops),
-            list(),
-            &[dropped],
-        );
+        let bad = listed("no_port", &one_port(field, number, drops), list(), &[dropped]);
         cases.extend([good.passes(boundary), bad.beyond(boundary)]);
     }
     cases.extend(last_unit(rng, port));
@@ -760,11 +578,7 @@ fn last_unit(rng: &mut Rng, port: u8) -> Vec<Case> {
     let k = 8 * usize::from(port);
     let lists = open_with(&[
         (policing::PARTITION, k, partition),
-        (
-            forwarding_parameters::part_spc(partition as usize),
-            0,
-            units as u64,
-        ),
+        (forwarding_parameters::part_spc(partition as usize), 0, units as u64),
     ]);
     let mut list = List::new();
     let mut lines = Vec::new();
@@ -789,11 +603,7 @@ pub fn arrangements() -> Vec<Case> {
             swapped.swap(first, second);
             let words = stream_of(&swapped, End::default());
             let name = format!("swapped_{first}_{second}");
-            cases.push(Case::of_words(
-                &name,
-                "document 01: blocks in any order",
-                &words,
-            ));
+            cases.push(Case::of_words(&name, "document 01: blocks in any order", &words));
         }
     }
     for row in &ROWS {
@@ -801,17 +611,10 @@ pub fn arrangements() -> Vec<Case> {
         for cut in 1..entries.max(1) {
             let words = cut_in_two(row.table, cut);
             let name = format!("cut_{:02x}_{cut}", row.id);
-            cases.push(Case::of_words(
-                &name,
-                "document 01: a table in several blocks",
-                &words,
-            ));
+            cases.push(Case::of_words(&name, "document 01: a table in several blocks", &words));
         }
     }
-    cases
-        .into_iter()
-        .map(|case| case.output(k::OUTPUT))
-        .collect()
+    cases.into_iter().map(|case| case.output(k::OUTPUT)).collect()
 }
 
 /// K with one table's block cut behind so many entries.
@@ -879,13 +682,9 @@ pub fn cut_lists() -> Vec<Case> {
             expected.push("list refused 52".to_string());
         }
         cases.push(
-            Case::of_lists(
-                &format!("list_cut_{length}"),
-                "document 01, refusal 52",
-                &k::lists(),
-            )
-            .list_bytes(list[..length].to_vec())
-            .expecting(Expect::Lines(expected)),
+            Case::of_lists(&format!("list_cut_{length}"), "document 01, refusal 52", &k::lists())
+                .list_bytes(list[..length].to_vec())
+                .expecting(Expect::Lines(expected)),
         );
     }
     cases

@@ -103,10 +103,7 @@ fn too_short(tally: &mut Tally) {
         let numbers = [
             ("31 load_words", told(load_words(&mut lent(), &stream))),
             ("31 load_bytes", told(load_bytes(&mut lent(), &bytes))),
-            (
-                "31 write",
-                told(write(&mut lent(), LoadState::fresh(), &stream[..9]).0),
-            ),
+            ("31 write", told(write(&mut lent(), LoadState::fresh(), &stream[..9]).0)),
             ("31 fresh_ledger", fresh_ledger(image).err().unwrap_or(0)),
             ("31 judge", frame_number(image, &ledger, 0, 0, &[0; 60])),
             ("31 tile", tile_number(image, &ledger, 0)),
@@ -179,13 +176,7 @@ fn write_counts(rng: &mut Rng, tally: &mut Tally) {
                 Side::Passes => LoadAnswer::More,
                 Side::Refused => LoadAnswer::Refused(30),
             };
-            expect(
-                tally,
-                WRITE_COUNTS[row.table.place()],
-                side,
-                answer,
-                expected,
-            );
+            expect(tally, WRITE_COUNTS[row.table.place()], side, answer, expected);
             if side == Side::Refused {
                 tally.refusal(30);
                 tally.result(same("30 leaves all", (image, after), (before, state)));
@@ -213,14 +204,8 @@ fn write_room(rng: &mut Rng, tally: &mut Tally) {
     ];
     for (boundary, placed, due, side) in edits {
         let phase = rng.pick(&[Phase::Data, Phase::DataChecksum]);
-        let state = LoadState {
-            begun: true,
-            phase,
-            table: row.table,
-            placed,
-            due,
-            ..LoadState::fresh()
-        };
+        let state =
+            LoadState { begun: true, phase, table: row.table, placed, due, ..LoadState::fresh() };
         let mut image = vec![0; IMAGE_WORDS];
         image[count_place(row.table)] = count as u32;
         let before = image.clone();
@@ -245,12 +230,7 @@ fn marks_and_counts(rng: &mut Rng, tally: &mut Tally) {
     let mut edits = vec![
         ("30 mark", MARK, 1, Side::Passes),
         ("30 mark", MARK, 0, Side::Refused),
-        (
-            "30 mark",
-            MARK,
-            rng.pick(&[2, 3, 256, u32::MAX]),
-            Side::Refused,
-        ),
+        ("30 mark", MARK, rng.pick(&[2, 3, 256, u32::MAX]), Side::Refused),
     ];
     let ranges = [
         ("30 count of 05", Table::L2AddressLookup, 0, 1024),
@@ -315,55 +295,32 @@ fn ledgers(rng: &mut Rng, tally: &mut Tally) {
         sides.push((boundary, passes, refused));
     };
     clause("39 units", &|ledger, more| ledger.units[partition] += more);
-    clause("39 credit", &|ledger, more| {
-        ledger.meters[meter].credit += more
-    });
+    clause("39 credit", &|ledger, more| ledger.meters[meter].credit += more);
     clause("39 credit of no entry", &|ledger, more| {
         ledger.meters[not_loaded].credit = more;
     });
-    clause("39 time of a meter", &|ledger, more| {
-        ledger.meters[meter].time = time + more
-    });
+    clause("39 time of a meter", &|ledger, more| ledger.meters[meter].time = time + more);
     clause("39 time of no entry's meter", &|ledger, more| {
         ledger.meters[not_loaded].time = time + more;
     });
-    clause("39 last time", &|ledger, more| {
-        ledger.last_time = LAST_TIME + more
-    });
+    clause("39 last time", &|ledger, more| ledger.last_time = LAST_TIME + more);
     let mut count = |boundary, counts: &dyn Fn(u64) -> [u64; 4]| {
         clause(boundary, &|ledger, more| {
             let [frames, drops, octets, dropped_octets] = counts(more);
-            ledger.ports[port] = PortCounts {
-                frames,
-                drops,
-                octets,
-                dropped_octets,
-            };
+            ledger.ports[port] = PortCounts { frames, drops, octets, dropped_octets };
         });
     };
     let n = rng.between(1, (1 << 32) - 3);
-    count("39 drops above frames", &|more| {
-        [n, n + more, 64 * n, 4 * (n + more)]
-    });
-    count("39 octets below 4 x frames", &|more| {
-        [n, 0, 4 * n - more, 0]
-    });
-    count("39 octets above 4,100 x frames", &|more| {
-        [n, 0, 4_100 * n + more, 0]
-    });
+    count("39 drops above frames", &|more| [n, n + more, 64 * n, 4 * (n + more)]);
+    count("39 octets below 4 x frames", &|more| [n, 0, 4 * n - more, 0]);
+    count("39 octets above 4,100 x frames", &|more| [n, 0, 4_100 * n + more, 0]);
     count("39 octets of no frames", &|more| [0, 0, more, 0]);
-    count("39 dropped octets below 4 x drops", &|more| {
-        [n + 1, n, 64 * n + 64, 4 * n - more]
-    });
+    count("39 dropped octets below 4 x drops", &|more| [n + 1, n, 64 * n + 64, 4 * n - more]);
     count("39 dropped octets above 4,100 x drops", &|more| {
         [n + 1, n, 4_100 * n + 4_100, 4_100 * n + more]
     });
-    count("39 dropped octets of no drops", &|more| {
-        [n, 0, 64 * n, more]
-    });
-    count("39 dropped octets above octets", &|more| {
-        [n + 1, n, 64 * n, 64 * n + more]
-    });
+    count("39 dropped octets of no drops", &|more| [n, 0, 64 * n, more]);
+    count("39 dropped octets above octets", &|more| [n + 1, n, 64 * n, 64 * n + more]);
     for (boundary, passes, refused) in sides {
         ask_39(rng, tally, boundary, Side::Passes, &image, &passes);
         ask_39(rng, tally, boundary, Side::Refused, &image, &refused);
@@ -397,10 +354,9 @@ fn ask_39(
 fn most_frames(rng: &mut Rng, tally: &mut Tally) {
     let image = loaded(&open());
     let port = rng.place(5);
-    for (frames, side, number) in [
-        ((1 << 32) - 2, Side::Passes, 0),
-        ((1 << 32) - 1, Side::Refused, 38),
-    ] {
+    for (frames, side, number) in
+        [((1 << 32) - 2, Side::Passes, 0), ((1 << 32) - 1, Side::Refused, 38)]
+    {
         let mut ledger = fresh(&image);
         ledger.ports[port].frames = frames;
         ledger.ports[port].octets = frames * rng.between(4, 4_100);
@@ -437,10 +393,9 @@ fn credits(rng: &mut Rng, tally: &mut Tally) {
     let image = loaded(&lists);
     let bytes = rng.between(60, 1514);
     let price = (bytes + 4) * 8_000_000;
-    for (credit, side, number, left) in [
-        (price, Side::Passes, 0, 0),
-        (price - 1, Side::Refused, 9, price - 1),
-    ] {
+    for (credit, side, number, left) in
+        [(price, Side::Passes, 0, 0), (price - 1, Side::Refused, 9, price - 1)]
+    {
         let mut ledger = fresh(&image);
         ledger.meters[0].credit = credit;
         ledger.last_time = rng.below(LAST_TIME);
@@ -454,11 +409,9 @@ fn credits(rng: &mut Rng, tally: &mut Tally) {
 /// Drop 7 by SHARINDX, in an edited image: count - 1 and count.
 fn shared_entries(rng: &mut Rng, tally: &mut Tally) {
     let entries = rng.between(1, 45);
-    for (shared, side, number) in [
-        (entries - 1, Side::Passes, 0),
-        (entries, Side::Refused, 7),
-        (63, Side::Refused, 7),
-    ] {
+    for (shared, side, number) in
+        [(entries - 1, Side::Passes, 0), (entries, Side::Refused, 7), (63, Side::Refused, 7)]
+    {
         let mut image = loaded(&open());
         image[count_place(Table::L2Policing)] = entries as u32;
         let first = start_of(Table::L2Policing);

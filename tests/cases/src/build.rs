@@ -25,12 +25,7 @@ pub struct Frame {
 impl Frame {
     /// 60 bytes from B, untagged.
     pub fn to(destination: u64) -> Frame {
-        Frame {
-            destination,
-            source: B,
-            tag: None,
-            length: 60,
-        }
+        Frame { destination, source: B, tag: None, length: 60 }
     }
 
     pub fn broadcast() -> Frame {
@@ -47,10 +42,7 @@ impl Frame {
     }
 
     pub fn with_tag(self, protocol: u16, tag: u16) -> Frame {
-        Frame {
-            tag: Some((protocol, tag)),
-            ..self
-        }
+        Frame { tag: Some((protocol, tag)), ..self }
     }
 
     /// All bytes of the frame, a tag's too.
@@ -85,9 +77,7 @@ impl Default for List {
 
 impl List {
     pub fn new() -> List {
-        List {
-            bytes: HEAD.to_vec(),
-        }
+        List { bytes: HEAD.to_vec() }
     }
 
     pub fn frame(self, port: u8, time: u64, frame: &Frame) -> List {

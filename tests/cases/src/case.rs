@@ -99,10 +99,7 @@ impl Case {
     }
 
     fn at(self, boundary: &'static str, side: Side) -> Case {
-        Case {
-            side: Some((boundary, side)),
-            ..self
-        }
+        Case { side: Some((boundary, side)), ..self }
     }
 
     /// What the reference prints, or how that differs from what is expected.
@@ -120,10 +117,7 @@ impl Case {
         if output == expected {
             return Ok(output);
         }
-        Err(format!(
-            "{} ({}): expected\n{expected}\nand got\n{output}",
-            self.name, self.clause
-        ))
+        Err(format!("{} ({}): expected\n{expected}\nand got\n{output}", self.name, self.clause))
     }
 }
 

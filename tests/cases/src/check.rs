@@ -27,9 +27,7 @@ pub fn check(seed: u64, rounds: usize) -> bool {
         tally.run(&generated(&mut rng, round));
         if round % 8 == 0 {
             boundary_calls::run(&mut rng, &mut tally);
-            boundaries::cases(&mut rng)
-                .iter()
-                .for_each(|case| tally.run(case));
+            boundaries::cases(&mut rng).iter().for_each(|case| tally.run(case));
         }
     }
     tally.print();

@@ -125,8 +125,5 @@ pub fn one_entry_a_block(lists: &Lists) -> Vec<u32> {
 }
 
 pub fn random_end(rng: &mut Rng) -> End {
-    End {
-        first: rng.word(),
-        free_high: rng.word() as u8,
-    }
+    End { first: rng.word(), free_high: rng.word() as u8 }
 }

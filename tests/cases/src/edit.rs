@@ -118,11 +118,8 @@ pub fn edited_state(rng: &mut Rng, state: &LoadState) -> LoadState {
         6 => edited.begun = !edited.begun,
         _ => {
             let number = rng.pick(&[1, 7, 8, 20, 25]);
-            edited.answer = rng.pick(&[
-                None,
-                Some(LoadAnswer::Loaded),
-                Some(LoadAnswer::Refused(number)),
-            ]);
+            edited.answer =
+                rng.pick(&[None, Some(LoadAnswer::Loaded), Some(LoadAnswer::Refused(number))]);
         }
     }
     edited

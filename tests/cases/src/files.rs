@@ -51,11 +51,7 @@ fn full(rng: &mut Rng) -> Vec<Case> {
     let mut cases = Vec::new();
     for number in 0..FULL_STREAMS {
         let lists = random_config(rng, Profile::Full);
-        let words = if number == 0 {
-            one_entry_a_block(&lists)
-        } else {
-            rearranged(rng, &lists)
-        };
+        let words = if number == 0 { one_entry_a_block(&lists) } else { rearranged(rng, &lists) };
         let name = format!("full_{number}");
         let case = Case::of_bytes(&name, "every table at its most entries", bytes_of(&words));
         cases.push(case.list_bytes(random_list(rng)).loaded());

@@ -77,12 +77,7 @@ fn valid(rng: &mut Rng, addresses: usize, policing_entries: usize, vlans: usize)
     push_any(rng, &mut lists, Table::L2Forwarding, 13);
     push_any(rng, &mut lists, Table::MacConfiguration, 5);
     let with_lookup_parameters = rng.place(2);
-    push_any(
-        rng,
-        &mut lists,
-        Table::L2LookupParameters,
-        with_lookup_parameters,
-    );
+    push_any(rng, &mut lists, Table::L2LookupParameters, with_lookup_parameters);
     push_any(rng, &mut lists, Table::L2ForwardingParameters, 1);
     push_any(rng, &mut lists, Table::GeneralParameters, 1);
     push_any(rng, &mut lists, Table::XmiiModeParameters, 1);
@@ -226,11 +221,7 @@ fn near_port(rng: &mut Rng, lists: &mut Lists, port: usize) {
     for (flag, set) in flags {
         lists.put(flag, port, u64::from(set));
     }
-    for mask in [
-        forwarding::BC_DOMAIN,
-        forwarding::REACH_PORT,
-        forwarding::FL_DOMAIN,
-    ] {
+    for mask in [forwarding::BC_DOMAIN, forwarding::REACH_PORT, forwarding::FL_DOMAIN] {
         let ports = near_mask(rng);
         lists.put(mask, port, ports);
     }
@@ -270,9 +261,7 @@ pub fn break_rule(rng: &mut Rng, lists: &mut Lists, rule: u32) {
             let used: Vec<u64> = (0..lists.of(Table::VlanLookup).len())
                 .map(|number| lists.get(vlan_lookup::VLANID, number))
                 .collect();
-            let absent = (0..4096)
-                .filter(|vlan| !used.contains(vlan))
-                .collect::<Vec<u64>>();
+            let absent = (0..4096).filter(|vlan| !used.contains(vlan)).collect::<Vec<u64>>();
             let vlan = rng.pick(&absent);
             lists.put(mac_configuration::VLANID, rng.place(5), vlan);
         }
@@ -347,11 +336,7 @@ pub fn random_stream(rng: &mut Rng, lists: &Lists) -> Vec<u8> {
 
 /// A frame that shares addresses and VLANs with `Profile::Near`.
 pub fn random_frame(rng: &mut Rng) -> Vec<u8> {
-    let destination = if rng.once_in(8) {
-        rng.next() & BROADCAST
-    } else {
-        rng.pick(&ADDRESSES)
-    };
+    let destination = if rng.once_in(8) { rng.next() & BROADCAST } else { rng.pick(&ADDRESSES) };
     let length = match rng.below(24) {
         0 => rng.place(60),
         1 => rng.pick(&[59, 60, 61]),
@@ -359,9 +344,7 @@ pub fn random_frame(rng: &mut Rng) -> Vec<u8> {
         3..=6 => rng.between(60, 120) as usize,
         _ => 60,
     };
-    let mut frame = Frame::to(destination)
-        .from(rng.pick(&ADDRESSES))
-        .length(length);
+    let mut frame = Frame::to(destination).from(rng.pick(&ADDRESSES)).length(length);
     let vlan = rng.pick(&VLANS) as u16;
     let priority = rng.below(8) as u16;
     match rng.below(8) {

@@ -21,74 +21,30 @@ const WRITES: &str = "decisions, Writes and the load state";
 const FRAMES: &str = "decisions, Frames";
 
 pub const CASES: [CallCase; 27] = [
-    (
-        "count_rises_with_the_checksum",
-        WRITES,
-        count_rises_with_the_checksum,
-    ),
-    (
-        "data_stands_behind_the_counted_entries",
-        WRITES,
-        data_stands_in_place,
-    ),
+    ("count_rises_with_the_checksum", WRITES, count_rises_with_the_checksum),
+    ("data_stands_behind_the_counted_entries", WRITES, data_stands_in_place),
     ("first_write_zeroes", WRITES, first_write_zeroes),
-    (
-        "refused_first_writes_begin_nothing",
-        WRITES,
-        refused_first_writes_begin_nothing,
-    ),
+    ("refused_first_writes_begin_nothing", WRITES, refused_first_writes_begin_nothing),
     ("order_31_30_32", WRITES, order_31_30_32),
     ("30_leaves_all_and_goes_on", WRITES, refusal_30_goes_on),
-    (
-        "30_comes_before_a_repeated_answer",
-        WRITES,
-        refusals_before_a_repeated_answer,
-    ),
-    (
-        "30_is_not_for_first_writes_and_whole_loads",
-        WRITES,
-        no_30_at_the_start,
-    ),
-    (
-        "repeated_answer_writes_nothing",
-        WRITES,
-        repeated_answer_writes_nothing,
-    ),
+    ("30_comes_before_a_repeated_answer", WRITES, refusals_before_a_repeated_answer),
+    ("30_is_not_for_first_writes_and_whole_loads", WRITES, no_30_at_the_start),
+    ("repeated_answer_writes_nothing", WRITES, repeated_answer_writes_nothing),
     ("words_behind_the_answer", WRITES, words_behind_the_answer),
     ("state_behind_an_answer", WRITES, state_behind_an_answer),
     ("more_is_never_marked", WRITES, more_is_never_marked),
-    (
-        "refused_leaves_zeros_and_the_rest",
-        WRITES,
-        refused_leaves_zeros,
-    ),
+    ("refused_leaves_zeros_and_the_rest", WRITES, refused_leaves_zeros),
     ("9_and_31_leave_all", WRITES, refusals_9_and_31_leave_all),
     ("layout_of_the_image", WRITES, layout_of_the_image),
     ("mark_is_exactly_1", WRITES, mark_is_exactly_1),
-    (
-        "an_edit_in_range_is_believed",
-        WRITES,
-        an_edit_in_range_is_believed,
-    ),
-    (
-        "30_looks_at_mark_and_counts_only",
-        FRAMES,
-        rules_21_to_25_are_not_asked_again,
-    ),
-    (
-        "drops_1_to_8_leave_the_meters",
-        FRAMES,
-        early_drops_leave_the_meters,
-    ),
+    ("an_edit_in_range_is_believed", WRITES, an_edit_in_range_is_believed),
+    ("30_looks_at_mark_and_counts_only", FRAMES, rules_21_to_25_are_not_asked_again),
+    ("drops_1_to_8_leave_the_meters", FRAMES, early_drops_leave_the_meters),
     ("first_of_twin_vlans", FRAMES, first_of_twin_vlans),
     ("first_of_twin_indexes", FRAMES, first_of_twin_indexes),
     ("sharindx_63_is_drop_7", FRAMES, sharindx_63_is_drop_7),
     ("entries_beyond_a_count", FRAMES, entries_beyond_a_count),
-    (
-        "0d_beyond_its_count",
-        FRAMES,
-        lookup_parameters_beyond_their_count,
-    ),
+    ("0d_beyond_its_count", FRAMES, lookup_parameters_beyond_their_count),
     ("order_of_frame_refusals", FRAMES, order_of_frame_refusals),
     ("order_of_tile_answers", FRAMES, order_of_tile_answers),
     ("no_ledger_is_39_everywhere", FRAMES, no_ledger_is_39),
@@ -138,11 +94,7 @@ fn count_rises_with_the_checksum() -> Result<(), String> {
 fn data_stands_in_place() -> Result<(), String> {
     let (image, state) = begun(6);
     let place = start_of(Table::L2Policing);
-    same(
-        "words placed",
-        &image[place..place + 3],
-        &[0x02F7_0000, 0x03FF_FFE8, 0],
-    )?;
+    same("words placed", &image[place..place + 3], &[0x02F7_0000, 0x03FF_FFE8, 0])?;
     same("placed", state.placed, 2)?;
     same("due", state.due, 88)
 }
@@ -156,11 +108,7 @@ fn first_write_zeroes() -> Result<(), String> {
 fn refused_first_writes_begin_nothing() -> Result<(), String> {
     let fresh = LoadState::fresh();
     let mut short = vec![7; IMAGE_WORDS - 1];
-    same(
-        "31",
-        write(&mut short, fresh, &[1]),
-        (LoadAnswer::Refused(31), fresh),
-    )?;
+    same("31", write(&mut short, fresh, &[1]), (LoadAnswer::Refused(31), fresh))?;
     same("short image", short, vec![7; IMAGE_WORDS - 1])?;
     let mut image = dirty();
     for words in [vec![], vec![0x9E00_030E; 65]] {
@@ -174,22 +122,10 @@ fn order_31_30_32() -> Result<(), String> {
     let (mut image, state) = begun(10);
     image[POLICING_COUNT] = 46;
     let mut short = image[..IMAGE_WORDS - 1].to_vec();
-    same(
-        "31 first",
-        write(&mut short, state, &[]).0,
-        LoadAnswer::Refused(31),
-    )?;
-    same(
-        "30 before 32",
-        write(&mut image, state, &[]).0,
-        LoadAnswer::Refused(30),
-    )?;
+    same("31 first", write(&mut short, state, &[]).0, LoadAnswer::Refused(31))?;
+    same("30 before 32", write(&mut image, state, &[]).0, LoadAnswer::Refused(30))?;
     image[POLICING_COUNT] = 0;
-    same(
-        "32 last",
-        write(&mut image, state, &[]).0,
-        LoadAnswer::Refused(32),
-    )
+    same("32 last", write(&mut image, state, &[]).0, LoadAnswer::Refused(32))
 }
 
 fn refusal_30_goes_on() -> Result<(), String> {
@@ -225,23 +161,11 @@ fn refusals_before_a_repeated_answer() -> Result<(), String> {
         }
         let answer = state.answer.ok_or("no answer")?;
         let mut short = image[..IMAGE_WORDS - 1].to_vec();
-        same(
-            "31",
-            write(&mut short, state, &[1]).0,
-            LoadAnswer::Refused(31),
-        )?;
-        same(
-            "32",
-            write(&mut image, state, &[]).0,
-            LoadAnswer::Refused(32),
-        )?;
+        same("31", write(&mut short, state, &[1]).0, LoadAnswer::Refused(31))?;
+        same("32", write(&mut image, state, &[]).0, LoadAnswer::Refused(32))?;
         same("repeated", write(&mut image, state, &[1]), (answer, state))?;
         image[image::FIRST_COUNT] = 1025;
-        same(
-            "30",
-            write(&mut image, state, &[1]).0,
-            LoadAnswer::Refused(30),
-        )?;
+        same("30", write(&mut image, state, &[1]).0, LoadAnswer::Refused(30))?;
     }
     Ok(())
 }
@@ -253,11 +177,7 @@ fn no_30_at_the_start() -> Result<(), String> {
     let told = write(&mut image, LoadState::fresh(), &stream[..64]).0;
     same("first write", told, LoadAnswer::More)?;
     let mut image = dirty();
-    same(
-        "whole load",
-        load_words(&mut image, &stream),
-        LoadAnswer::Loaded,
-    )
+    same("whole load", load_words(&mut image, &stream), LoadAnswer::Loaded)
 }
 
 fn repeated_answer_writes_nothing() -> Result<(), String> {
@@ -281,11 +201,7 @@ fn words_behind_the_answer() -> Result<(), String> {
     let (mut image, state) = begun(192);
     let mut last = stream[192..].to_vec();
     last.extend([0xFFFF_FFFF; 20]);
-    same(
-        "loaded",
-        write(&mut image, state, &last).0,
-        LoadAnswer::Loaded,
-    )?;
+    same("loaded", write(&mut image, state, &last).0, LoadAnswer::Loaded)?;
     same("image", &image[..IMAGE_WORDS], &loaded(&k::lists())[..])
 }
 
@@ -293,11 +209,7 @@ fn state_behind_an_answer() -> Result<(), String> {
     let stream = plain_stream(&k::lists());
     let (mut image, state) = begun(192);
     let (_, after) = write(&mut image, state, &stream[192..]);
-    let expected = |answer| LoadState {
-        begun: true,
-        answer: Some(answer),
-        ..LoadState::fresh()
-    };
+    let expected = |answer| LoadState { begun: true, answer: Some(answer), ..LoadState::fresh() };
     same("behind 0", after, expected(LoadAnswer::Loaded))?;
     let (mut image, state) = begun(192);
     let (_, after) = write(&mut image, state, &[1, 1, 1, 1]);
@@ -323,11 +235,7 @@ fn refused_leaves_zeros() -> Result<(), String> {
     make_zero(&mut expected);
     same("zeros", &image, &expected)?;
     let mut image = dirty();
-    same(
-        "10",
-        load_words(&mut image, &stream[..120]),
-        LoadAnswer::Refused(10),
-    )?;
+    same("10", load_words(&mut image, &stream[..120]), LoadAnswer::Refused(10))?;
     same("zeros behind 10", &image, &expected)?;
     let mut image = dirty();
     same("10", load_words(&mut image, &[]), LoadAnswer::Refused(10))?;
@@ -339,11 +247,7 @@ fn refusals_9_and_31_leave_all() -> Result<(), String> {
     same("9", load_bytes(&mut image, &[0; 5]), LoadAnswer::Refused(9))?;
     same("image", &image, &dirty())?;
     let mut short = vec![3; IMAGE_WORDS - 1];
-    same(
-        "31 before 9",
-        load_bytes(&mut short, &[0; 5]),
-        LoadAnswer::Refused(31),
-    )?;
+    same("31 before 9", load_bytes(&mut short, &[0; 5]), LoadAnswer::Refused(31))?;
     same("31", load_words(&mut short, &[]), LoadAnswer::Refused(31))?;
     same("short image", short, vec![3; IMAGE_WORDS - 1])
 }
@@ -382,13 +286,7 @@ fn layout_of_the_image() -> Result<(), String> {
 }
 
 fn address(address: u64, ports: u64, index: u64) -> Address {
-    Address {
-        vlan: 1,
-        address,
-        ports,
-        enforced: false,
-        index,
-    }
+    Address { vlan: 1, address, ports, enforced: false, index }
 }
 
 fn mark_is_exactly_1() -> Result<(), String> {
@@ -441,14 +339,7 @@ fn rules_21_to_25_are_not_asked_again() -> Result<(), String> {
     // Port 4's VLAN has no entry now, and its broadcasts' SHARINDX none either.
     let told = judge(&image, ledger, 4, 0, &Frame::to(A).bytes()).0;
     same("VLAN 99", told, FrameAnswer::Drop(4))?;
-    let told = judge(
-        &image,
-        ledger,
-        4,
-        0,
-        &Frame::broadcast().tagged(0, 1).bytes(),
-    )
-    .0;
+    let told = judge(&image, ledger, 4, 0, &Frame::broadcast().tagged(0, 1).bytes()).0;
     same("SHARINDX 63", told, FrameAnswer::Drop(7))
 }
 
@@ -535,18 +426,11 @@ fn entries_beyond_a_count() -> Result<(), String> {
     same("VLAN 2 not counted", ports_or_drop(&image, &tagged)?, -4)?;
     same("A not counted", ports_or_drop(&image, &Frame::to(A))?, 30)?;
     image[count_place(Table::L2Policing)] = 40;
-    same(
-        "40 not counted",
-        ports_or_drop(&image, &Frame::broadcast())?,
-        -7,
-    )
+    same("40 not counted", ports_or_drop(&image, &Frame::broadcast())?, -7)
 }
 
 fn lookup_parameters_beyond_their_count() -> Result<(), String> {
-    let elsewhere = Address {
-        vlan: 2,
-        ..address(A, 0b00010, 0)
-    };
+    let elsewhere = Address { vlan: 2, ..address(A, 0b00010, 0) };
     let mut image = loaded(&with_address(open(), elsewhere));
     image[start_of(Table::L2LookupParameters)] = u32::MAX;
     same("count 0", ports_or_drop(&image, &Frame::to(A))?, 30)?;
@@ -580,11 +464,7 @@ fn order_of_frame_refusals() -> Result<(), String> {
     same("35", ask(&image, ledger, 0, 10, &long), told(35))?;
     same("38", ask(&image, ledger, 0, 10, &[]), told(38))?;
     // Another port's count does not refuse.
-    same(
-        "port 1",
-        ask(&image, ledger, 1, 10, &[]),
-        (FrameAnswer::Drop(1), false),
-    )
+    same("port 1", ask(&image, ledger, 1, 10, &[]), (FrameAnswer::Drop(1), false))
 }
 
 /// 31, 33, not-loaded, 39: with a bad ledger and port 9 a frame gets 39 and a tile 33.
@@ -598,16 +478,8 @@ fn order_of_tile_answers() -> Result<(), String> {
     let frame = judge(&image, ledger, 9, 0, &[0; 60]).0;
     same("a frame's 39", frame, FrameAnswer::Refused(39))?;
     image[MARK] = 0;
-    same(
-        "33 before not-loaded",
-        tile(&image, &ledger, 5),
-        TileAnswer::Refused(33),
-    )?;
-    same(
-        "not-loaded",
-        tile(&image, &ledger, 4),
-        TileAnswer::NotLoaded,
-    )?;
+    same("33 before not-loaded", tile(&image, &ledger, 5), TileAnswer::Refused(33))?;
+    same("not-loaded", tile(&image, &ledger, 4), TileAnswer::NotLoaded)?;
     image[MARK] = 1;
     same("39", tile(&image, &ledger, 4), TileAnswer::Refused(39))?;
     ledger.last_time = 0;
@@ -625,11 +497,7 @@ fn no_ledger_is_39() -> Result<(), String> {
         same("frame", told, FrameAnswer::Refused(39))?;
         let told = release(&image, no_ledger(), 0).0;
         same("release", told, ReleaseAnswer::Refused(39))?;
-        same(
-            "tile",
-            tile(&image, &no_ledger(), 0),
-            TileAnswer::Refused(39),
-        )?;
+        same("tile", tile(&image, &no_ledger(), 0), TileAnswer::Refused(39))?;
     }
     same("fresh of zeros", fresh_ledger(&[0; IMAGE_WORDS]), Err(30))?;
     same("fresh of few", fresh_ledger(&[0; IMAGE_WORDS - 1]), Err(31))

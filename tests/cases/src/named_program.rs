@@ -18,10 +18,8 @@ const REFUSALS: &str = "document 01: call refusals 33, 34, 35 and 36, 37 in thei
 const SHARES: &str = "document 01: the exact bits of one division";
 
 pub fn cases() -> Vec<Case> {
-    let mut cases = vec![
-        Case::of_lists("k", K, &k::lists()).output(k::OUTPUT),
-        refused_stream_reads_no_list(),
-    ];
+    let mut cases =
+        vec![Case::of_lists("k", K, &k::lists()).output(k::OUTPUT), refused_stream_reads_no_list()];
     cases.extend(heads());
     cases.extend(cuts());
     cases.extend(sizes());
@@ -77,11 +75,7 @@ fn heads() -> Vec<Case> {
                 .output(&nothing_run(number)),
         );
     }
-    cases.push(
-        Case::of_lists("head_alone", HEAD, &k::lists())
-            .list(List::new())
-            .lines(&[]),
-    );
+    cases.push(Case::of_lists("head_alone", HEAD, &k::lists()).list(List::new()).lines(&[]));
     cases
 }
 
@@ -110,30 +104,16 @@ tile 4 no-frames
         case("kind_1_alone", List::new().raw(&[1]), &["list refused 52"]),
         case("kind_2_alone", List::new().raw(&[2]), &["list refused 52"]),
         case("frame_cut_by_a_byte", cut_frame, &[sent, "list refused 52"]),
-        case(
-            "frame_without_bytes",
-            no_bytes_yet,
-            &[sent, "list refused 52"],
-        ),
-        case(
-            "kind_9_behind_a_frame",
-            first.clone().raw(&[9]),
-            &[sent, "list refused 53"],
-        ),
+        case("frame_without_bytes", no_bytes_yet, &[sent, "list refused 52"]),
+        case("kind_9_behind_a_frame", first.clone().raw(&[9]), &[sent, "list refused 53"]),
         case(
             "kind_9_ends_the_walk",
             first.clone().raw(&[9]).release(0),
             &[sent, "list refused 53"],
         ),
-        Case::of_lists("tiles_behind_53", CUT, &open())
-            .list(first.raw(&[3]))
-            .output(output),
+        Case::of_lists("tiles_behind_53", CUT, &open()).list(first.raw(&[3])).output(output),
         // A cut record that would be refused is 52 all the same.
-        case(
-            "cut_with_port_9",
-            List::new().raw(&[1, 9, 0]),
-            &["list refused 52"],
-        ),
+        case("cut_with_port_9", List::new().raw(&[1, 9, 0]), &["list refused 52"]),
     ]
 }
 
@@ -178,23 +158,19 @@ fn records() -> Vec<Case> {
         .release(0)
         .release(0)
         .frame(0, 1, &Frame::to(A));
-    vec![Case::of_lists("refused_records_count", RECORDS, &open())
-        .list(list)
-        .lines(&[
-            "refused 33",
-            "refused 36",
-            "frame 3 sent 30 vlan 1 prio 0 tags 0 queues 0 0 0 0 0",
-            "release 4 ok",
-            "refused 37",
-            "frame 6 sent 30 vlan 1 prio 0 tags 0 queues 0 0 0 0 0",
-        ])]
+    vec![Case::of_lists("refused_records_count", RECORDS, &open()).list(list).lines(&[
+        "refused 33",
+        "refused 36",
+        "frame 3 sent 30 vlan 1 prio 0 tags 0 queues 0 0 0 0 0",
+        "release 4 ok",
+        "refused 37",
+        "frame 6 sent 30 vlan 1 prio 0 tags 0 queues 0 0 0 0 0",
+    ])]
 }
 
 fn call_refusals() -> Vec<Case> {
     let case = |name, list: List, lines: &[&str]| {
-        Case::of_lists(name, REFUSALS, &open())
-            .list(list)
-            .lines(lines)
+        Case::of_lists(name, REFUSALS, &open()).list(list).lines(lines)
     };
     let last = (1 << 48) - 1;
     let (short, long) = (vec![0; 60], vec![0; 4097]);
@@ -203,28 +179,17 @@ fn call_refusals() -> Vec<Case> {
         .frame(0, last, &Frame::to(A))
         .frame(0, last + 1, &Frame::to(A))
         .frame(0, u64::MAX, &Frame::to(A));
-    let partitions = open_with(&[
-        (forwarding_parameters::part_spc(7), 0, 1),
-        (policing::PARTITION, 0, 7),
-    ]);
+    let partitions =
+        open_with(&[(forwarding_parameters::part_spc(7), 0, 1), (policing::PARTITION, 0, 7)]);
     vec![
         case(
             "33_before_34_and_35",
-            List::new()
-                .frame_of(0, 5, &short)
-                .frame_of(5, 1 << 48, &long)
-                .frame_of(255, 4, &long),
-            &[
-                "frame 1 sent 30 vlan 1 prio 0 tags 0 queues 0 0 0 0 0",
-                "refused 33",
-                "refused 33",
-            ],
+            List::new().frame_of(0, 5, &short).frame_of(5, 1 << 48, &long).frame_of(255, 4, &long),
+            &["frame 1 sent 30 vlan 1 prio 0 tags 0 queues 0 0 0 0 0", "refused 33", "refused 33"],
         ),
         case(
             "34_before_35",
-            List::new()
-                .frame_of(0, 1 << 48, &long)
-                .frame_of(0, 7, &long),
+            List::new().frame_of(0, 1 << 48, &long).frame_of(0, 7, &long),
             &["refused 34", "refused 35"],
         ),
         case(
@@ -235,25 +200,11 @@ fn call_refusals() -> Vec<Case> {
         case(
             "last_time",
             at_the_end,
-            &[
-                "frame 1 sent 30 vlan 1 prio 0 tags 0 queues 0 0 0 0 0",
-                "refused 34",
-                "refused 34",
-            ],
+            &["frame 1 sent 30 vlan 1 prio 0 tags 0 queues 0 0 0 0 0", "refused 34", "refused 34"],
         ),
-        case(
-            "36_before_37",
-            List::new().release(8).release(255),
-            &["refused 36", "refused 36"],
-        ),
+        case("36_before_37", List::new().release(8).release(255), &["refused 36", "refused 36"]),
         Case::of_lists("37_is_of_that_partition", REFUSALS, &partitions)
-            .list(
-                List::new()
-                    .frame(0, 0, &Frame::to(A))
-                    .release(0)
-                    .release(7)
-                    .release(7),
-            )
+            .list(List::new().frame(0, 0, &Frame::to(A)).release(0).release(7).release(7))
             .lines(&[
                 "frame 1 sent 30 vlan 1 prio 0 tags 0 queues 0 0 0 0 0",
                 "refused 37",
@@ -265,10 +216,11 @@ fn call_refusals() -> Vec<Case> {
 
 /// Shares whose bits have letters: 1/3 of the frames; 63 of 63 + 2 x 64 octets.
 fn shares() -> Vec<Case> {
-    let list = List::new()
-        .frame(2, 0, &Frame::to(A))
-        .frame(2, 0, &Frame::to(A).length(59))
-        .frame(2, 0, &Frame::to(A));
+    let list = List::new().frame(2, 0, &Frame::to(A)).frame(2, 0, &Frame::to(A).length(59)).frame(
+        2,
+        0,
+        &Frame::to(A),
+    );
     // 1/3 is 1.0101..b x 2^-2, rounded down; 63/191 comes from long division in whole numbers.
     let output = format!(
         "\
@@ -284,9 +236,7 @@ tile 4 no-frames
 ",
         nearest_share(63, 191)
     );
-    vec![Case::of_lists("shares_of_three", SHARES, &open())
-        .list(list)
-        .output(&output)]
+    vec![Case::of_lists("shares_of_three", SHARES, &open()).list(list).output(&output)]
 }
 
 /// The bits of part / whole by long division in whole numbers, rounded to nearest, ties to even.

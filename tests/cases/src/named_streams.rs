@@ -83,10 +83,7 @@ fn every_id() -> Vec<Case> {
 }
 
 fn end_blocks() -> Vec<Case> {
-    let odd_end = End {
-        first: 0x77AB_CDEF,
-        free_high: 0xFF,
-    };
+    let odd_end = End { first: 0x77AB_CDEF, free_high: 0xFF };
     let k_blocks = plain_blocks(&k::lists());
     let odd = stream_of(&k_blocks, odd_end);
     let mut damaged_id = k_words();
@@ -117,10 +114,7 @@ fn lengths() -> Vec<Case> {
     let mut twice = vec![Block::plain(0x0D, vec![0]); 2];
     twice.extend(plain_blocks(&k::lists()));
     let vlan = k::lists().of(Table::VlanLookup)[0].clone();
-    let halves = [
-        Block::plain(0x07, vec![vlan[0]]),
-        Block::plain(0x07, vec![vlan[1]]),
-    ];
+    let halves = [Block::plain(0x07, vec![vlan[0]]), Block::plain(0x07, vec![vlan[1]])];
     let mut nine_08 = plain_blocks(&k::lists());
     nine_08.push(Block::plain(0x08, vec![0; 2]));
     vec![
@@ -131,12 +125,8 @@ fn lengths() -> Vec<Case> {
         Case::of_words("free_bits_are_no_length", LENGTHS, &free_length()).refused(10),
         Case::of_words("0d_twice", LENGTHS, &stream_of(&twice, End::default())).refused(6),
         Case::of_words("08_with_14", LENGTHS, &stream_of(&nine_08, End::default())).refused(6),
-        Case::of_words(
-            "entry_in_two_blocks",
-            LENGTHS,
-            &stream_of(&halves, End::default()),
-        )
-        .refused(5),
+        Case::of_words("entry_in_two_blocks", LENGTHS, &stream_of(&halves, End::default()))
+            .refused(5),
     ]
 }
 
@@ -239,18 +229,8 @@ fn order() -> Vec<Case> {
         Case::of_words("2_before_4", ORDER, &wrong(0x0A, 3)).refused(2),
         Case::of_words("2_before_5", ORDER, &wrong(0x07, 3)).refused(2),
         Case::of_words("2_before_6", ORDER, &wrong(0x07, 8194)).refused(2),
-        Case::of_words(
-            "3_whatever_the_length",
-            ORDER,
-            &header_alone(0x13, 0xFF_FFFF),
-        )
-        .refused(3),
-        Case::of_words(
-            "4_whatever_the_length",
-            ORDER,
-            &header_alone(0x00, 0xFF_FFFF),
-        )
-        .refused(4),
+        Case::of_words("3_whatever_the_length", ORDER, &header_alone(0x13, 0xFF_FFFF)).refused(3),
+        Case::of_words("4_whatever_the_length", ORDER, &header_alone(0x00, 0xFF_FFFF)).refused(4),
         Case::of_words("5_before_6_in_05", ORDER, &header_alone(0x05, 3074)).refused(5),
         Case::of_words("6_in_05", ORDER, &header_alone(0x05, 3075)).refused(6),
         Case::of_words("7_before_the_next_block", ORDER, &two_blocks).refused(7),
@@ -266,10 +246,7 @@ fn free() -> Vec<Case> {
         block.free_low = 0x00FF_FFFF - number as u32;
         block.free_high = 0xFF - number as u8;
     }
-    let odd_end = End {
-        first: 0xFFFF_FFFF,
-        free_high: 0xFF,
-    };
+    let odd_end = End { first: 0xFFFF_FFFF, free_high: 0xFF };
     // 08 in two blocks with another table between them: its entries follow on.
     let forwarding = k::lists().of(Table::L2Forwarding).clone();
     let mut parts = cut_blocks(Table::L2Forwarding, &forwarding, &[7]);
@@ -278,32 +255,18 @@ fn free() -> Vec<Case> {
     split.push(parts.remove(1));
     split.insert(0, parts.remove(0));
     vec![
-        Case::of_words(
-            "blocks_reversed",
-            FREE,
-            &stream_of(&reversed, End::default()),
-        )
-        .output(k::OUTPUT),
+        Case::of_words("blocks_reversed", FREE, &stream_of(&reversed, End::default()))
+            .output(k::OUTPUT),
         Case::of_words("free_bits_set", FREE, &stream_of(&free_bits, odd_end)).output(k::OUTPUT),
-        Case::of_words(
-            "08_split_around_others",
-            FREE,
-            &stream_of(&split, End::default()),
-        )
-        .output(k::OUTPUT),
+        Case::of_words("08_split_around_others", FREE, &stream_of(&split, End::default()))
+            .output(k::OUTPUT),
         Case::of_words("one_entry_a_block", FREE, &one_entry_a_block(&k::lists()))
             .output(k::OUTPUT),
     ]
 }
 
 fn address(index: u64, address: u64, vlan: u64) -> Address {
-    Address {
-        vlan,
-        address,
-        ports: 31,
-        enforced: false,
-        index,
-    }
+    Address { vlan, address, ports: 31, enforced: false, index }
 }
 
 fn rules() -> Vec<Case> {
@@ -314,9 +277,8 @@ fn rules() -> Vec<Case> {
         (mac_configuration::VLANID, 3, 9),
     ];
     let not_member = [(vlan_lookup::VMEMB_PORT, 0, 0b11011)];
-    let mut spread: Vec<_> = (0..8)
-        .map(|partition| (forwarding_parameters::part_spc(partition), 0, 116))
-        .collect();
+    let mut spread: Vec<_> =
+        (0..8).map(|partition| (forwarding_parameters::part_spc(partition), 0, 116)).collect();
     spread[0].2 = 117;
     let sum_929 = with(k::lists(), &spread);
     spread[7].2 = 117;
@@ -343,11 +305,7 @@ fn rules() -> Vec<Case> {
         let name = format!("20_without_{:02x}", row.id);
         let case = Case::of_lists(&name, "document 01, rule 20", &lists);
         let optional = row.id == 0x05 || row.id == 0x0D;
-        cases.push(if optional {
-            case.loaded()
-        } else {
-            case.refused(20)
-        });
+        cases.push(if optional { case.loaded() } else { case.refused(20) });
     }
     cases
 }

@@ -64,11 +64,7 @@ fn one_list_many_streams(rng: &mut Rng, lists: &Lists) -> Result<(), String> {
     }
     same("answers", answers[0], answers[1])?;
     if answers[0] == LoadAnswer::Loaded {
-        same(
-            "the lists' image",
-            &images[0] == &image::of_lists(lists),
-            true,
-        )?;
+        same("the lists' image", &images[0] == &image::of_lists(lists), true)?;
     } else {
         same("zeros", images[0].iter().all(|&word| word == 0), true)?;
     }
@@ -103,11 +99,7 @@ fn any_cutting(rng: &mut Rng, lists: &Lists) -> Result<(), String> {
     } else {
         same("answers", last, answer)?;
         same("images", whole == written, true)?;
-        let told = LoadState {
-            begun: true,
-            answer: Some(answer),
-            ..LoadState::fresh()
-        };
+        let told = LoadState { begun: true, answer: Some(answer), ..LoadState::fresh() };
         same("state", state, told)?;
     }
     if let LoadAnswer::Refused(_) = answer {
@@ -117,11 +109,7 @@ fn any_cutting(rng: &mut Rng, lists: &Lists) -> Result<(), String> {
     let mut of_bytes = before.clone();
     let answer_to_bytes = load_bytes(&mut of_bytes, &bytes);
     if bytes.len() % 4 == 0 {
-        same(
-            "bytes",
-            (answer_to_bytes, of_bytes == whole),
-            (answer, true),
-        )
+        same("bytes", (answer_to_bytes, of_bytes == whole), (answer, true))
     } else {
         let expected = (LoadAnswer::Refused(9), true);
         same("9", (answer_to_bytes, of_bytes == before), expected)
@@ -180,9 +168,7 @@ fn what_a_verdict_moves(
     before: &Ledger,
     after: &Ledger,
 ) -> Result<(), String> {
-    let moved = (0..45)
-        .filter(|&number| before.meters[number] != after.meters[number])
-        .count();
+    let moved = (0..45).filter(|&number| before.meters[number] != after.meters[number]).count();
     let taken = before.units.iter().sum::<u64>() - after.units.iter().sum::<u64>();
     match answer {
         FrameAnswer::Drop(1..=8) => same("meters moved", moved, 0)?,
@@ -215,11 +201,7 @@ fn edited_calls(rng: &mut Rng, tally: &mut Tally, lists: &Lists) -> Result<(), S
     let sound = loaded(lists);
     let first = fresh_ledger(&sound).map_err(|number| format!("fresh: {number}"))?;
     for _ in 0..8 {
-        let image = if rng.once_in(3) {
-            edited_image(rng, &sound)
-        } else {
-            sound.clone()
-        };
+        let image = if rng.once_in(3) { edited_image(rng, &sound) } else { sound.clone() };
         let mut ledger = fresh_ledger(&image).unwrap_or(first);
         if rng.once_in(2) {
             ledger = edited_ledger(rng, &sound, &ledger);
@@ -267,11 +249,7 @@ fn edited_writes(rng: &mut Rng, tally: &mut Tally, lists: &Lists) -> Result<(), 
         let (answer, after) = write(&mut image, state, &words[place..place + length]);
         if let LoadAnswer::Refused(number @ (30 | 31 | 32)) = answer {
             tally.refusal(number);
-            same(
-                "refused write",
-                (&image, after) == (&before.0, before.1),
-                true,
-            )?;
+            same("refused write", (&image, after) == (&before.0, before.1), true)?;
             // Mended, so that the round goes on.
             image::make_zero(&mut image);
             state = LoadState::fresh();

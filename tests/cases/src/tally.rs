@@ -5,9 +5,8 @@ use std::collections::BTreeMap;
 use crate::case::{Case, Side};
 
 /// Refusals that a run of the program can give.
-pub const PROGRAM_REFUSALS: [u32; 26] = [
-    1, 2, 3, 4, 5, 6, 7, 8, 9, 10, 20, 21, 22, 23, 24, 25, 33, 34, 35, 36, 37, 50, 51, 52, 53, 54,
-];
+pub const PROGRAM_REFUSALS: [u32; 26] =
+    [1, 2, 3, 4, 5, 6, 7, 8, 9, 10, 20, 21, 22, 23, 24, 25, 33, 34, 35, 36, 37, 50, 51, 52, 53, 54];
 
 /// Refusals that only a call can give.
 pub const CALL_REFUSALS: [u32; 5] = [30, 31, 32, 38, 39];

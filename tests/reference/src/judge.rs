@@ -111,6 +111,15 @@ fn count_frame(ledger: &mut Ledger, port: usize, length: u64, answer: FrameAnswe
     }
 }
 
+/// A frame that drops 1 to 6 have let by.
+struct Received {
+    length: u64,
+    destination: u64,
+    priority: usize,
+    vlan: u64,
+    vlan_entry: usize,
+}
+
 /// The first drop that applies, or where the frame is sent; spends credit and takes a unit.
 fn verdict(
     image: &[u32],
@@ -119,46 +128,81 @@ fn verdict(
     time: u64,
     frame: &[u8],
 ) -> FrameAnswer {
+    let steps = receive(image, port, frame).and_then(|received| {
+        let k = police(image, ledger, port, time, &received)?;
+        send(image, ledger, port, k, &received)
+    });
+    match steps {
+        Ok(sent) => FrameAnswer::Sent(sent),
+        Err(drop) => FrameAnswer::Drop(drop),
+    }
+}
+
+/// Drops 1 to 6.
+fn receive(image: &[u32], port: usize, frame: &[u8]) -> Result<Received, u32> {
     let length = length_of(frame);
     if length < LEAST_LENGTH {
-        return FrameAnswer::Drop(1);
+        return Err(1);
     }
     if value(image, mac_configuration::INGRESS, port) == 0 {
-        return FrameAnswer::Drop(2);
+        return Err(2);
     }
     if !is_tagged(frame) && value(image, mac_configuration::DRPUNTAG, port) == 1 {
-        return FrameAnswer::Drop(3);
+        return Err(3);
     }
     let (priority, vlan) = priority_and_vlan(image, port, frame);
     let Some(vlan_entry) = first_vlan_entry(image, vlan) else {
-        return FrameAnswer::Drop(4);
+        return Err(4);
     };
     if is_tagged(frame) && !has_port(value(image, vlan_lookup::VMEMB_PORT, vlan_entry), port) {
-        return FrameAnswer::Drop(5);
+        return Err(5);
     }
     if source_is_enforced_elsewhere(image, source(frame), vlan, port) {
-        return FrameAnswer::Drop(6);
+        return Err(6);
     }
-    let k = policing_entry(port, priority, destination(frame));
+    let destination = destination(frame);
+    Ok(Received { length, destination, priority, vlan, vlan_entry })
+}
+
+/// Drops 7 to 9; gives the policing entry k.
+fn police(
+    image: &[u32],
+    ledger: &mut Ledger,
+    port: usize,
+    time: u64,
+    received: &Received,
+) -> Result<usize, u32> {
+    let k = policing_entry(port, received.priority, received.destination);
     let Some(shared) = shared_policing_entry(image, k) else {
-        return FrameAnswer::Drop(7);
+        return Err(7);
     };
-    if length > value(image, policing::MAXLEN, k) {
-        return FrameAnswer::Drop(8);
+    if received.length > value(image, policing::MAXLEN, k) {
+        return Err(8);
     }
-    if !meter_pays(image, ledger, shared, time, length) {
-        return FrameAnswer::Drop(9);
+    if !meter_pays(image, ledger, shared, time, received.length) {
+        return Err(9);
     }
-    let ports = ports_to_send(image, port, destination(frame), vlan, vlan_entry);
+    Ok(k)
+}
+
+/// Drops 10 and 11; a sent frame takes one unit.
+fn send(
+    image: &[u32],
+    ledger: &mut Ledger,
+    port: usize,
+    k: usize,
+    received: &Received,
+) -> Result<Sent, u32> {
+    let ports = ports_to_send(image, port, received);
     if ports == 0 {
-        return FrameAnswer::Drop(10);
+        return Err(10);
     }
     let partition = value(image, policing::PARTITION, k) as usize;
     if ledger.units[partition] == 0 {
-        return FrameAnswer::Drop(11);
+        return Err(11);
     }
     ledger.units[partition] -= 1;
-    FrameAnswer::Sent(sent(image, port, priority, vlan, vlan_entry, ports))
+    Ok(sent(image, port, received, ports))
 }
 
 /// Port 0 is the lowest bit of a mask.
@@ -286,12 +330,12 @@ fn best_destination_entry(image: &[u32], destination: u64, vlan: u64) -> Option<
 }
 
 /// Before any cut but VLAN_BC: the broadcast domain, the match's ports, or flooding.
-fn wanted_ports(image: &[u32], port: usize, destination: u64, vlan: u64, vlan_entry: usize) -> u64 {
-    if destination == BROADCAST {
+fn wanted_ports(image: &[u32], port: usize, received: &Received) -> u64 {
+    if received.destination == BROADCAST {
         let domain = value(image, forwarding::BC_DOMAIN, port);
-        return domain & value(image, vlan_lookup::VLAN_BC, vlan_entry);
+        return domain & value(image, vlan_lookup::VLAN_BC, received.vlan_entry);
     }
-    match best_destination_entry(image, destination, vlan) {
+    match best_destination_entry(image, received.destination, received.vlan) {
         Some(number) => value(image, address_lookup::DESTPORTS, number),
         None => value(image, forwarding::FL_DOMAIN, port),
     }
@@ -307,42 +351,29 @@ fn egress_ports(image: &[u32]) -> u64 {
 }
 
 /// Cut with REACH_PORT, VMEMB_PORT and EGRESS; the reception port is taken out.
-fn ports_to_send(
-    image: &[u32],
-    port: usize,
-    destination: u64,
-    vlan: u64,
-    vlan_entry: usize,
-) -> u64 {
-    let wanted = wanted_ports(image, port, destination, vlan, vlan_entry);
-    wanted
+fn ports_to_send(image: &[u32], port: usize, received: &Received) -> u64 {
+    wanted_ports(image, port, received)
         & value(image, forwarding::REACH_PORT, port)
-        & value(image, vlan_lookup::VMEMB_PORT, vlan_entry)
+        & value(image, vlan_lookup::VMEMB_PORT, received.vlan_entry)
         & egress_ports(image)
         & !(1 << port)
 }
 
-/// New priority, queues and tags of a sent frame.
-fn sent(
-    image: &[u32],
-    port: usize,
-    priority: usize,
-    vlan: u64,
-    vlan_entry: usize,
-    ports: u64,
-) -> Sent {
-    let q = value(image, forwarding::vlan_pmap(priority), port) as usize;
+/// New priority q, tags, and the queue at each output: VLAN_PMAP of entry 5 + q.
+fn sent(image: &[u32], port: usize, received: &Received, ports: u64) -> Sent {
+    let q = value(image, forwarding::vlan_pmap(received.priority), port) as usize;
     let mut queues = [0; PORTS];
     for (output, queue) in queues.iter_mut().enumerate() {
         if has_port(ports, output) {
             *queue = value(image, forwarding::vlan_pmap(output), 5 + q) as u32;
         }
     }
+    let tag_port = value(image, vlan_lookup::TAG_PORT, received.vlan_entry);
     Sent {
         ports: ports as u32,
-        vlan: vlan as u32,
+        vlan: received.vlan as u32,
         prio: q as u32,
-        tags: (ports & value(image, vlan_lookup::TAG_PORT, vlan_entry)) as u32,
+        tags: (ports & tag_port) as u32,
         queues,
     }
 }

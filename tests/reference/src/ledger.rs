@@ -41,12 +41,7 @@ pub struct Ledger {
 
 /// Times and tiles 0, and nothing in partitions and meters.
 fn empty() -> Ledger {
-    let no_frames = PortCounts {
-        frames: 0,
-        drops: 0,
-        octets: 0,
-        dropped_octets: 0,
-    };
+    let no_frames = PortCounts { frames: 0, drops: 0, octets: 0, dropped_octets: 0 };
     Ledger {
         units: [0; PARTITIONS],
         meters: [Meter { credit: 0, time: 0 }; METERS],
@@ -75,10 +70,7 @@ pub fn fresh_ledger(image: &[u32]) -> Result<Ledger, u32> {
 
 /// The value beside a refused fresh ledger: its last time is one that 39 always refuses.
 pub fn no_ledger() -> Ledger {
-    Ledger {
-        last_time: LAST_TIME + 1,
-        ..empty()
-    }
+    Ledger { last_time: LAST_TIME + 1, ..empty() }
 }
 
 /// PART_SPC of a partition.

@@ -13,14 +13,8 @@ pub const HEAD: [u8; 5] = [b'F', b'R', b'L', 0, 1];
 
 #[derive(Clone, Copy, PartialEq, Eq, Debug)]
 pub enum Record<'a> {
-    Frame {
-        port: u8,
-        time: u64,
-        bytes: &'a [u8],
-    },
-    Release {
-        partition: u8,
-    },
+    Frame { port: u8, time: u64, bytes: &'a [u8] },
+    Release { partition: u8 },
 }
 
 /// What stands at the reader's place.
@@ -54,22 +48,14 @@ impl<'a> Reader<'a> {
         if list.len() < HEAD.len() {
             return Err(52);
         }
-        Ok(Reader {
-            list,
-            place: HEAD.len(),
-            broke_off,
-        })
+        Ok(Reader { list, place: HEAD.len(), broke_off })
     }
 
     /// The next record; a refusal or the end leaves the place where it is.
     pub fn next(&mut self) -> Next<'a> {
         let rest = &self.list[self.place..];
         let Some(&kind) = rest.first() else {
-            return if self.broke_off {
-                Next::Refused(52)
-            } else {
-                Next::End
-            };
+            return if self.broke_off { Next::Refused(52) } else { Next::End };
         };
         let found = match kind {
             1 => frame_record(rest),
@@ -98,11 +84,7 @@ fn frame_record(rest: &[u8]) -> Option<(Record<'_>, usize)> {
     let head = rest.get(..12)?;
     let length = number(&head[10..12]) as usize;
     let bytes = rest.get(12..12 + length)?;
-    let record = Record::Frame {
-        port: head[1],
-        time: number(&head[2..10]),
-        bytes,
-    };
+    let record = Record::Frame { port: head[1], time: number(&head[2..10]), bytes };
     Some((record, 12 + length))
 }
 

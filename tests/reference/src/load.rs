@@ -77,18 +77,12 @@ impl LoadState {
     }
 
     fn begun() -> LoadState {
-        LoadState {
-            begun: true,
-            ..LoadState::fresh()
-        }
+        LoadState { begun: true, ..LoadState::fresh() }
     }
 
     /// No trace of order or checksums is left beside the answer.
     fn told(answer: LoadAnswer) -> LoadState {
-        LoadState {
-            answer: Some(answer),
-            ..LoadState::begun()
-        }
+        LoadState { answer: Some(answer), ..LoadState::begun() }
     }
 }
 

@@ -52,12 +52,7 @@ pub struct Block {
 impl Block {
     /// A block whose free bits are zero.
     pub fn plain(id: u8, data: Vec<u32>) -> Block {
-        Block {
-            id,
-            free_low: 0,
-            free_high: 0,
-            data,
-        }
+        Block { id, free_low: 0, free_high: 0, data }
     }
 
     /// The two words that the header checksum covers.

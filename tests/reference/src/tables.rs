@@ -24,12 +24,7 @@ pub struct Row {
 }
 
 const fn row(id: u8, table: Table, words: usize, most: usize) -> Row {
-    Row {
-        table,
-        id,
-        words,
-        most,
-    }
+    Row { table, id, words, most }
 }
 
 /// ID, table, words an entry, most entries.
@@ -223,10 +218,7 @@ mod tests {
     fn an_address_entry_packed_by_another_hand() {
         let entry = [0xCD80_0000, 0xD684_0D35, 0xDFC6_9C90];
         assert_eq!(read_field(&entry, address_lookup::VLANID), 3580);
-        assert_eq!(
-            read_field(&entry, address_lookup::MACADDR),
-            0x69C9_0D68_40D3
-        );
+        assert_eq!(read_field(&entry, address_lookup::MACADDR), 0x69C9_0D68_40D3);
         assert_eq!(read_field(&entry, address_lookup::DESTPORTS), 11);
         assert_eq!(read_field(&entry, address_lookup::ENFPORT), 1);
         assert_eq!(read_field(&entry, address_lookup::INDEX), 216);

@@ -16,10 +16,7 @@ fn answer_to(words: &[u32]) -> LoadAnswer {
 
 fn image_of(lists: &Lists) -> Vec<u32> {
     let mut image = vec![0xAAAA_AAAA; IMAGE_WORDS];
-    assert_eq!(
-        load_words(&mut image, &plain_stream(lists)),
-        LoadAnswer::Loaded
-    );
+    assert_eq!(load_words(&mut image, &plain_stream(lists)), LoadAnswer::Loaded);
     image
 }
 
@@ -93,20 +90,14 @@ fn verdict_from_credit_0(smax: u64, rate: u64, elapsed: u64) -> FrameAnswer {
 #[test]
 fn rows_h_and_i_512_microseconds_pay_64_bytes() {
     assert_eq!(verdict_from_credit_0(64, 64, 511), FrameAnswer::Drop(9));
-    assert!(matches!(
-        verdict_from_credit_0(64, 64, 512),
-        FrameAnswer::Sent(_)
-    ));
+    assert!(matches!(verdict_from_credit_0(64, 64, 512), FrameAnswer::Sent(_)));
 }
 
 #[test]
 fn row_j_smax_63_never_passes_64() {
     for elapsed in [0, 511, 512, 513, 1 << 20, (1 << 48) - 1] {
         assert_eq!(verdict_from_credit_0(63, 64, elapsed), FrameAnswer::Drop(9));
-        assert_eq!(
-            verdict_from_credit_0(63, 65_535, elapsed),
-            FrameAnswer::Drop(9)
-        );
+        assert_eq!(verdict_from_credit_0(63, 65_535, elapsed), FrameAnswer::Drop(9));
     }
 }
 

@@ -99,10 +99,7 @@ fn endless_files_come_to_an_end() {
 fn the_counting_budget() {
     let stream = k_stream();
     let zeros = |bytes: u64| (&stream[..]).chain(io::repeat(0)).take(bytes);
-    let endless = run(
-        &|| Ok((&stream[..]).chain(io::repeat(0))),
-        &mut &k::list()[..],
-    );
+    let endless = run(&|| Ok((&stream[..]).chain(io::repeat(0))), &mut &k::list()[..]);
     assert_eq!(endless, k::OUTPUT);
     let odd_past = run(&|| Ok(zeros((1 << 32) + 1)), &mut &k::list()[..]);
     assert_eq!(odd_past, k::OUTPUT);

@@ -65,10 +65,8 @@ fn compare_entry(image: &[u32], line: &str) -> Option<(Table, usize)> {
     let mut parts = left.split_whitespace();
     let table = Table::of_id(u8::from_str_radix(parts.next()?, 16).ok()?)?;
     let number: usize = number.parse().unwrap();
-    let words: Vec<u32> = words
-        .split_whitespace()
-        .map(|word| u32::from_str_radix(word, 16).unwrap())
-        .collect();
+    let words: Vec<u32> =
+        words.split_whitespace().map(|word| u32::from_str_radix(word, 16).unwrap()).collect();
     assert_eq!(entry(image, table, number), words, "{line}");
     let told: Vec<(&str, &str)> = parts.map(|part| part.split_once('=').unwrap()).collect();
     compare_fields(table, &words, &told);
@@ -134,10 +132,9 @@ fn fields_of(table: Table) -> Vec<(&'static str, Vec<Field>)> {
         Table::L2LookupParameters => {
             vec![("shared_learn", vec![lookup_parameters::SHARED_LEARN])]
         }
-        Table::L2ForwardingParameters => vec![(
-            "part_spc",
-            (0..8).map(forwarding_parameters::part_spc).collect(),
-        )],
+        Table::L2ForwardingParameters => {
+            vec![("part_spc", (0..8).map(forwarding_parameters::part_spc).collect())]
+        }
         Table::GeneralParameters | Table::XmiiModeParameters => vec![],
     }
 }

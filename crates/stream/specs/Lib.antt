@@ -1,0 +1,4 @@
+-- Loading: the paper's form, the machine's form, and the bridge between them.
+pub mod Header
+pub mod Paper
+pub mod Machine

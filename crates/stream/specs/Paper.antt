@@ -1,0 +1,80 @@
+-- The paper's form (document 01, "The stream" and "Numbers for a refused load"): a stream is walked block by block, and gives each table's list of words.
+use mathlib.Core.Bool.{Bool, cond, not}
+use mathlib.Core.List.{List, [], _∷_, _++_}
+use Prim.Native.Nat.{ℕ, zero, suc, _+_, _*_, _/_}
+use lib.Dec.{eqb}
+use lib.ListN.{length, getD, take, drop, set, replicate}
+use Rattle.crc.specs.Crc.{checksum}
+use Rattle.image.specs.Rows.{sizeOf}
+use Rattle.image.specs.Layout.{imageWords, imageOf}
+use Rattle.image.specs.Tables.{kindOf}
+use Rattle.rules.specs.Rules.{ruled}
+use Rattle.stream.specs.Header.{device, idOf, lengthOf, wrong}
+
+-- what the framing rules make of a stream: refused with a number, cut before its end block is complete, or passed with each table's words
+pub data Framed : Type 0 where
+  refused : ℕ → Framed
+  cut : Framed
+  passed : List (List ℕ) → Framed
+
+-- no table has arrived: nine lists with nothing in them
+abbrev pub none : List (List ℕ)
+none = replicate 9 []
+
+-- "a table may come in several blocks, whose entries follow on"
+abbrev pub put : List (List ℕ) → ℕ → List ℕ → List (List ℕ)
+put lists k words = set lists k (getD lists k [] ++ words)
+
+-- the entries that have come for table k
+abbrev pub had : List (List ℕ) → ℕ → ℕ
+had lists k = length (getD lists k []) / sizeOf k
+
+-- a block's data, then "7 after the data", then what follows
+abbrev pub checked : List ℕ → List ℕ → (ℕ → List ℕ → Framed) → Framed
+checked words [] next = cut
+checked words (sum ∷ rest) next = cond (not (eqb sum (checksum words))) (refused 7) (next sum rest)
+
+-- Framing, "in this order at a block: 8 for an end block; else 2, 3, 4, 5, 6, and 7 after the data". `before` is every word so far, of which the
+-- global checksum covers all and the end block's first two words; `lists` is what each table has. A block takes three words at least, so as many
+-- turns as words are enough.
+unfoldable pub blocks : ℕ → List ℕ → List (List ℕ) → List ℕ → Framed
+blocks zero before lists ws = cut
+blocks (suc turns) before lists [] = cut
+blocks (suc turns) before lists (h0 ∷ []) = cut
+blocks (suc turns) before lists (h0 ∷ h1 ∷ []) = cut
+blocks (suc turns) before lists (h0 ∷ h1 ∷ h2 ∷ rest) =
+    cond (eqb (lengthOf h1) 0) (cond (not (eqb h2 (checksum (before ++ (h0 ∷ h1 ∷ []))))) (refused 8) (passed lists))
+    (cond (not (eqb h2 (checksum (h0 ∷ h1 ∷ [])))) (refused 2)
+    (cond (not (eqb (wrong (kindOf (idOf h0)) (lengthOf h1) (had lists (kindOf (idOf h0)))) 0))
+    (refused (wrong (kindOf (idOf h0)) (lengthOf h1) (had lists (kindOf (idOf h0)))))
+    (checked (take (lengthOf h1) rest) (drop (lengthOf h1) rest)
+    (λ sum after. blocks turns (before ++ (h0 ∷ h1 ∷ h2 ∷ (take (lengthOf h1) rest ++ (sum ∷ []))))
+    (put lists (kindOf (idOf h0)) (take (lengthOf h1) rest))
+    after))))
+
+-- "1: word 0 differs"; then the blocks
+unfoldable pub framed : List ℕ → Framed
+framed [] = cut
+framed (w ∷ ws) = cond (not (eqb w device)) (refused 1) (blocks (length ws) (w ∷ []) none ws)
+
+-- what a whole load comes to: its number, 0 for loaded, and its image
+pub record Outcome : Type 0 where
+  pub number : ℕ
+  pub image : List ℕ
+
+-- a refused load leaves the image zero
+abbrev pub refusedWith : ℕ → Outcome
+refusedWith n = record { number = n; image = replicate imageWords 0 }
+
+-- the rules, "run once the end block has passed", on the image that the lists fix
+abbrev pub ended : List (List ℕ) → Outcome
+ended lists = cond (eqb (ruled (imageOf lists)) 0) (record { number = 0; image = imageOf lists }) (refusedWith (ruled (imageOf lists)))
+
+-- a stream's outcome; "10: words end before the end block is complete"
+abbrev pub outcomeOf : Framed → Outcome
+outcomeOf (refused n) = refusedWith n
+outcomeOf cut = refusedWith 10
+outcomeOf (passed lists) = ended lists
+
+abbrev pub loaded : List ℕ → Outcome
+loaded words = outcomeOf (framed words)
