@@ -134,7 +134,25 @@ answer-back (answer.Refused why) = ap answer.Refused (refusal-back why)
 pub one-answer : (list : List ℕ) (at : ℕ) (a b : Record) → told a ≡ standsAt list at → told b ≡ standsAt list at → a ≡ b
 one-answer list at a b p q = sym (answer-back a) ∙ ap answerOf (p ∙ sym q) ∙ answer-back b
 
--- ---- for callers: the case that a `match` found is inside the list
+-- ---- for callers: what a `match` on an answer knows of the places in it
+
 module _ (list : List ℕ) (at : ℕ) (r : Record) (is : told r ≡ standsAt list at) where
-  pub case-inside : (case : Record) → r ≡ case → Inside list at (told case)
+  case-inside : (case : Record) → r ≡ case → Inside list at (told case)
   case-inside case e = subst (λ (s : Stands). Inside list at s) (sym is ∙ ap told e) (inside list at)
+
+  -- a frame's bytes are `list[start..next]`
+  module _ (port time start count next : ℕ) (e : r ≡ answer.Frame port time start count next) where
+    pub frame-order : start ≤ next
+    frame-order = let i = case-inside (answer.Frame port time start count next) e in omega arith
+
+    pub frame-within : next ≤ length list
+    frame-within = case-inside (answer.Frame port time start count next) e .2
+
+    -- what is left of the list falls
+    pub frame-falls : length list - next < length list - at
+    frame-falls = let i = case-inside (answer.Frame port time start count next) e in omega arith
+
+  pub release-falls : (partition next : ℕ) → r ≡ answer.Release partition next → length list - next < length list - at
+  release-falls partition next e = let i = case-inside (answer.Release partition next) e in omega arith
+
+pub ruleset steps = (frame-order, frame-within, frame-falls, release-falls)

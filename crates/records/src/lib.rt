@@ -29,14 +29,14 @@ pub enum Refusal {
 }
 
 // What a list opens with.
-pub enum Opening {
+enum Opening {
     // Records of this version follow.
     Records(u64),
     Refused(Refusal),
 }
 
 // What a record is, by its kind byte.
-pub enum Kind {
+enum Kind {
     Frame,
     Release,
     Unknown,
@@ -74,7 +74,7 @@ pub fn number_of(why: Refusal) -> u64
 }
 
 // What a list opens with: 54, 50, 51, 52 or its version.
-pub fn opening_of(list: &[u8]) -> Opening
+fn opening_of(list: &[u8]) -> Opening
     ensures { λ r. ⌜ opens r ≡ openingOf (now (list .entry)) ⌝ }
 {
     if list.len() > MOST_BYTES {

@@ -12,10 +12,10 @@ frame-at-spec =
     tie.close
     (tie.spec
     (λ c. search needs)
-    (λ c. search (needs, chain, carried, frame-of) depth 40)
+    (λ c. search (needs, chain) depth 40)
     (λ c. search needs)
     (λ c κs. search needs)
-    (λ c. search (needs, chain, carried, frame-of) depth 40)
+    (λ c. search (needs, chain, carried) depth 40)
     (λ c. search needs)
     (λ c. search needs)
     (λ c κs. search needs)
