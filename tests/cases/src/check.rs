@@ -4,7 +4,7 @@ use crate::case::Case;
 use crate::rng::Rng;
 use crate::tally::Tally;
 use crate::{boundaries, boundary_calls, generate, named_calls, named_frames, named_program};
-use crate::{named_streams, properties};
+use crate::{fixed, named_streams, properties};
 
 /// Named cases, fixed damage, and so many seeded rounds; true where nothing is missing or wrong.
 pub fn check(seed: u64, rounds: usize) -> bool {
@@ -12,7 +12,7 @@ pub fn check(seed: u64, rounds: usize) -> bool {
     let mut tally = Tally::default();
     let named = named();
     named.iter().for_each(|case| tally.run(case));
-    fixed().iter().for_each(|case| tally.run(case));
+    fixed::cases().iter().for_each(|case| tally.run(case));
     for (name, clause, run) in named_calls::CASES {
         tally.result(run().map_err(|failure| format!("{name} ({clause}): {failure}")));
     }
@@ -39,14 +39,6 @@ pub fn named() -> Vec<Case> {
     let mut cases = named_program::cases();
     cases.extend(named_streams::cases());
     cases.extend(named_frames::cases());
-    cases
-}
-
-/// Damage and arrangements that need no seed.
-pub fn fixed() -> Vec<Case> {
-    let mut cases = boundaries::arrangements();
-    cases.extend(boundaries::damaged());
-    cases.extend(boundaries::cut_lists());
     cases
 }
 

@@ -6,9 +6,9 @@ use std::path::Path;
 
 use reference::stream::bytes_of;
 
-use crate::boundaries;
+use crate::{boundaries, fixed};
 use crate::case::Case;
-use crate::check::{fixed, generated, named};
+use crate::check::{generated, named};
 use crate::damage::{one_entry_a_block, rearranged};
 use crate::generate::{random_config, random_list, Profile};
 use crate::rng::Rng;
@@ -35,7 +35,7 @@ pub fn write(folder: &Path, seed: u64, generated_cases: usize) -> io::Result<usi
 pub fn all(seed: u64, generated_cases: usize) -> Vec<Case> {
     let mut rng = Rng::new(seed);
     let mut cases = named();
-    cases.extend(fixed());
+    cases.extend(fixed::cases());
     for _ in 0..BOUNDARY_ROUNDS {
         cases.extend(boundaries::cases(&mut rng));
     }

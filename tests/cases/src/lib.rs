@@ -3,12 +3,16 @@
 
 pub mod boundaries;
 pub mod boundary_calls;
+pub mod boundary_frames;
+pub mod boundary_records;
+pub mod boundary_streams;
 pub mod build;
 pub mod case;
 pub mod check;
 pub mod damage;
 pub mod edit;
 pub mod files;
+pub mod fixed;
 pub mod generate;
 pub mod named_calls;
 pub mod named_frames;
