@@ -2,3 +2,4 @@
 pub mod Header
 pub mod Paper
 pub mod Machine
+pub mod Stored

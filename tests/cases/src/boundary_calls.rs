@@ -224,26 +224,29 @@ fn write_room(rng: &mut Rng, tally: &mut Tally) {
     }
 }
 
-/// 30 of frames, releases and fresh ledgers, and the tile's not-loaded: mark and counts.
-fn marks_and_counts(rng: &mut Rng, tally: &mut Tally) {
-    let sound = loaded(&open());
+/// What a word of the image is put to, at which boundary, and on which side that is.
+type ImageEdit = (&'static str, usize, u32, Side);
+
+/// Each count that frames ask: its table, least and most.
+const FRAME_COUNTS: [(&str, Table, u32, u32); 9] = [
+    ("30 count of 05", Table::L2AddressLookup, 0, 1024),
+    ("30 count of 06", Table::L2Policing, 1, 45),
+    ("30 count of 07", Table::VlanLookup, 1, 4096),
+    ("30 count of 08", Table::L2Forwarding, 13, 13),
+    ("30 count of 09", Table::MacConfiguration, 5, 5),
+    ("30 count of 0D", Table::L2LookupParameters, 0, 1),
+    ("30 count of 0E", Table::L2ForwardingParameters, 1, 1),
+    ("30 count of 11", Table::GeneralParameters, 1, 1),
+    ("30 count of 4E", Table::XmiiModeParameters, 1, 1),
+];
+
+fn image_edits(rng: &mut Rng) -> Vec<ImageEdit> {
     let mut edits = vec![
         ("30 mark", MARK, 1, Side::Passes),
         ("30 mark", MARK, 0, Side::Refused),
         ("30 mark", MARK, rng.pick(&[2, 3, 256, u32::MAX]), Side::Refused),
     ];
-    let ranges = [
-        ("30 count of 05", Table::L2AddressLookup, 0, 1024),
-        ("30 count of 06", Table::L2Policing, 1, 45),
-        ("30 count of 07", Table::VlanLookup, 1, 4096),
-        ("30 count of 08", Table::L2Forwarding, 13, 13),
-        ("30 count of 09", Table::MacConfiguration, 5, 5),
-        ("30 count of 0D", Table::L2LookupParameters, 0, 1),
-        ("30 count of 0E", Table::L2ForwardingParameters, 1, 1),
-        ("30 count of 11", Table::GeneralParameters, 1, 1),
-        ("30 count of 4E", Table::XmiiModeParameters, 1, 1),
-    ];
-    for (boundary, table, least, most) in ranges {
+    for (boundary, table, least, most) in FRAME_COUNTS {
         let place = count_place(table);
         edits.push((boundary, place, least, Side::Passes));
         edits.push((boundary, place, most, Side::Passes));
@@ -253,7 +256,13 @@ fn marks_and_counts(rng: &mut Rng, tally: &mut Tally) {
             edits.push((boundary, place, least - 1, Side::Refused));
         }
     }
-    for (boundary, place, word, side) in edits {
+    edits
+}
+
+/// 30 of frames, releases and fresh ledgers, and the tile's not-loaded: mark and counts.
+fn marks_and_counts(rng: &mut Rng, tally: &mut Tally) {
+    let sound = loaded(&open());
+    for (boundary, place, word, side) in image_edits(rng) {
         let mut image = sound.clone();
         image[place] = word;
         let ledger = fresh_ledger(&image).unwrap_or(fresh(&sound));
@@ -271,6 +280,9 @@ fn marks_and_counts(rng: &mut Rng, tally: &mut Tally) {
     }
 }
 
+/// A boundary of 39 and a ledger on each side of it.
+type LedgerPair = (&'static str, Ledger, Ledger);
+
 /// A ledger on both sides of each clause of 39.
 fn ledgers(rng: &mut Rng, tally: &mut Tally) {
     let mut lists = random_config(rng, Profile::Near);
@@ -280,51 +292,64 @@ fn ledgers(rng: &mut Rng, tally: &mut Tally) {
     }
     let loaded_entries = lists.of(Table::L2Policing).len();
     let image = loaded(&lists);
-    let whole = fresh(&image);
-    let time = rng.between(1, LAST_TIME - 1);
-    let (partition, port) = (rng.place(8), rng.place(5));
-    let meter = rng.place(loaded_entries);
-    let not_loaded = loaded_entries + rng.place(45 - loaded_entries);
-    let mut sides: Vec<(&'static str, Ledger, Ledger)> = Vec::new();
-    let mut clause = |boundary, edit: &dyn Fn(&mut Ledger, u64)| {
-        let mut passes = whole;
-        passes.last_time = time;
-        let mut refused = passes;
-        edit(&mut passes, 0);
-        edit(&mut refused, 1);
-        sides.push((boundary, passes, refused));
-    };
-    clause("39 units", &|ledger, more| ledger.units[partition] += more);
-    clause("39 credit", &|ledger, more| ledger.meters[meter].credit += more);
-    clause("39 credit of no entry", &|ledger, more| {
-        ledger.meters[not_loaded].credit = more;
-    });
-    clause("39 time of a meter", &|ledger, more| ledger.meters[meter].time = time + more);
-    clause("39 time of no entry's meter", &|ledger, more| {
-        ledger.meters[not_loaded].time = time + more;
-    });
-    clause("39 last time", &|ledger, more| ledger.last_time = LAST_TIME + more);
-    let mut count = |boundary, counts: &dyn Fn(u64) -> [u64; 4]| {
-        clause(boundary, &|ledger, more| {
-            let [frames, drops, octets, dropped_octets] = counts(more);
-            ledger.ports[port] = PortCounts { frames, drops, octets, dropped_octets };
-        });
-    };
-    let n = rng.between(1, (1 << 32) - 3);
-    count("39 drops above frames", &|more| [n, n + more, 64 * n, 4 * (n + more)]);
-    count("39 octets below 4 x frames", &|more| [n, 0, 4 * n - more, 0]);
-    count("39 octets above 4,100 x frames", &|more| [n, 0, 4_100 * n + more, 0]);
-    count("39 octets of no frames", &|more| [0, 0, more, 0]);
-    count("39 dropped octets below 4 x drops", &|more| [n + 1, n, 64 * n + 64, 4 * n - more]);
-    count("39 dropped octets above 4,100 x drops", &|more| {
-        [n + 1, n, 4_100 * n + 4_100, 4_100 * n + more]
-    });
-    count("39 dropped octets of no drops", &|more| [n, 0, 64 * n, more]);
-    count("39 dropped octets above octets", &|more| [n + 1, n, 64 * n, 64 * n + more]);
-    for (boundary, passes, refused) in sides {
+    let mut whole = fresh(&image);
+    whole.last_time = rng.between(1, LAST_TIME - 1);
+    let mut pairs = meter_clauses(rng, &whole, loaded_entries);
+    pairs.extend(count_clauses(rng, &whole));
+    for (boundary, passes, refused) in pairs {
         ask_39(rng, tally, boundary, Side::Passes, &image, &passes);
         ask_39(rng, tally, boundary, Side::Refused, &image, &refused);
     }
+}
+
+/// A ledger at its bound, and one step beyond it.
+fn pair(boundary: &'static str, whole: &Ledger, edit: &dyn Fn(&mut Ledger, u64)) -> LedgerPair {
+    let (mut passes, mut refused) = (*whole, *whole);
+    edit(&mut passes, 0);
+    edit(&mut refused, 1);
+    (boundary, passes, refused)
+}
+
+/// Units, credits and times; the whole ledger has full partitions and meters.
+fn meter_clauses(rng: &mut Rng, whole: &Ledger, loaded_entries: usize) -> Vec<LedgerPair> {
+    let time = whole.last_time;
+    let partition = rng.place(8);
+    let meter = rng.place(loaded_entries);
+    let absent = loaded_entries + rng.place(45 - loaded_entries);
+    vec![
+        pair("39 units", whole, &|ledger, more| ledger.units[partition] += more),
+        pair("39 credit", whole, &|ledger, more| ledger.meters[meter].credit += more),
+        pair("39 credit of no entry", whole, &|ledger, more| ledger.meters[absent].credit = more),
+        pair("39 time of a meter", whole, &|ledger, more| ledger.meters[meter].time = time + more),
+        pair("39 time of no entry's meter", whole, &|ledger, more| {
+            ledger.meters[absent].time = time + more;
+        }),
+        pair("39 last time", whole, &|ledger, more| ledger.last_time = LAST_TIME + more),
+    ]
+}
+
+/// Frames, drops, octets and dropped octets of one port; `more` breaks one clause alone.
+fn count_clauses(rng: &mut Rng, whole: &Ledger) -> Vec<LedgerPair> {
+    let port = rng.place(5);
+    let n = rng.between(1, (1 << 32) - 3);
+    let counts = |boundary, of: &dyn Fn(u64) -> [u64; 4]| {
+        pair(boundary, whole, &|ledger, more| {
+            let [frames, drops, octets, dropped_octets] = of(more);
+            ledger.ports[port] = PortCounts { frames, drops, octets, dropped_octets };
+        })
+    };
+    vec![
+        counts("39 drops above frames", &|more| [n, n + more, 64 * n, 4 * (n + more)]),
+        counts("39 octets below 4 x frames", &|more| [n, 0, 4 * n - more, 0]),
+        counts("39 octets above 4,100 x frames", &|more| [n, 0, 4_100 * n + more, 0]),
+        counts("39 octets of no frames", &|more| [0, 0, more, 0]),
+        counts("39 dropped octets below 4 x drops", &|more| [n + 1, n, 64 * n + 64, 4 * n - more]),
+        counts("39 dropped octets above 4,100 x drops", &|more| {
+            [n + 1, n, 4_100 * n + 4_100, 4_100 * n + more]
+        }),
+        counts("39 dropped octets of no drops", &|more| [n, 0, 64 * n, more]),
+        counts("39 dropped octets above octets", &|more| [n + 1, n, 64 * n, 64 * n + more]),
+    ]
 }
 
 /// Whichever port and partition is asked.

@@ -215,7 +215,12 @@ fn late_drops(rng: &mut Rng) -> Vec<Case> {
     let list = || List::new().frame(port, 0, &Frame::to(A));
     let sent = format!("frame 1 sent {mask} vlan 1 prio 0 tags 0 queues 0 0 0 0 0");
     for (boundary, field, number, passes, drops) in cuts {
-        let good = listed("one_port", &one_port(field, number, passes), list(), &[sent.clone()]);
+        let good = listed(
+            "one_port",
+            &one_port(field, number, passes),
+            list(),
+            std::slice::from_ref(&sent),
+        );
         let dropped = "frame 1 drop 10".to_string();
         let bad = listed("no_port", &one_port(field, number, drops), list(), &[dropped]);
         cases.extend([good.passes(boundary), bad.beyond(boundary)]);
@@ -245,4 +250,3 @@ fn last_unit(rng: &mut Rng, port: u8) -> Vec<Case> {
     let bad = listed("no_unit_left", &lists, list, &lines);
     vec![good.passes("drop 11 units"), bad.beyond("drop 11 units")]
 }
-

@@ -246,4 +246,3 @@ fn two_indexes(first: u64, second: u64) -> Lists {
     }
     lists
 }
-

@@ -66,3 +66,27 @@ fn finish(tally: Tally) -> bool {
     println!("{} passed, {} failed", tally.passed, failures.len());
     failures.is_empty()
 }
+
+#[cfg(test)]
+mod tests {
+    use super::*;
+
+    #[test]
+    fn named_cases_hold() {
+        for case in named() {
+            if let Err(failure) = case.run() {
+                panic!("{failure}");
+            }
+        }
+        for (name, clause, run) in named_calls::CASES {
+            assert_eq!(run(), Ok(()), "{name} ({clause})");
+        }
+    }
+
+    #[test]
+    fn what_is_not_hit_is_told() {
+        // 26 refusals of the program, 5 of calls, 11 drops, two sides of each boundary.
+        let missed = Tally::default().missed();
+        assert_eq!(missed.len(), 26 + 5 + 11 + 2 * crate::tally::BOUNDARIES.len());
+    }
+}

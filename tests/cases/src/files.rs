@@ -6,12 +6,12 @@ use std::path::Path;
 
 use reference::stream::bytes_of;
 
-use crate::{boundaries, fixed};
 use crate::case::Case;
 use crate::check::{generated, named};
 use crate::damage::{one_entry_a_block, rearranged};
 use crate::generate::{random_config, random_list, Profile};
 use crate::rng::Rng;
+use crate::{boundaries, fixed};
 
 /// Rounds of the boundaries: their surroundings differ, their places do not.
 const BOUNDARY_ROUNDS: usize = 6;

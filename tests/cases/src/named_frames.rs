@@ -358,71 +358,54 @@ fn sent_line(number: u32) -> String {
     format!("frame {number} sent 30 vlan 1 prio 0 tags 0 queues 0 0 0 0 0")
 }
 
+/// Frames to A with L 64 at these times, under one SMAX and RATE.
+fn timed(name: &str, (smax, rate): (u64, u64), times: &[u64], lines: &[&str]) -> Case {
+    let frames: Vec<(u64, Frame)> = times.iter().map(|&time| (time, Frame::to(A))).collect();
+    several(name, METERS, &metered(smax, rate), &frames, lines)
+}
+
 fn meters() -> Vec<Case> {
-    let to_a = || Frame::to(A);
-    let (first, second, third) = (sent_line(1), sent_line(2), sent_line(3));
-    let fourth = sent_line(4);
-    let own_time = List::new().frame(0, 0, &to_a()).frame(1, 511, &to_a()).frame(0, 512, &to_a());
-    let big = 80_453_531_366_811;
+    let [first, second, third, fourth] = [1, 2, 3, 4].map(sent_line);
+    let on_port_1 = "frame 2 sent 29 vlan 1 prio 0 tags 0 queues 0 0 0 0 0";
+    let to_a = Frame::to(A);
+    let own_time = List::new().frame(0, 0, &to_a).frame(1, 511, &to_a).frame(0, 512, &to_a);
     let long = Frame::to(A).length(61);
+    let around_drop_8 = [(0, long.clone()), (0, to_a.clone()), (256, long), (512, to_a)];
     let tight = with(metered(64, 64), &[(policing::MAXLEN, 0, 64)]);
     vec![
-        several(
-            "meter_511_is_short",
-            METERS,
-            &metered(64, 64),
-            &[(0, to_a()), (511, to_a())],
-            &[&first, "frame 2 drop 9"],
-        ),
-        several(
-            "meter_512_reaches",
-            METERS,
-            &metered(64, 64),
-            &[(0, to_a()), (512, to_a())],
-            &[&first, &second],
-        ),
-        several(
+        timed("meter_511_is_short", (64, 64), &[0, 511], &[&first, "frame 2 drop 9"]),
+        timed("meter_512_reaches", (64, 64), &[0, 512], &[&first, &second]),
+        timed(
             "meter_63_never",
-            METERS,
-            &metered(63, 65_535),
-            &[(0, to_a()), ((1 << 48) - 1, to_a())],
+            (63, 65_535),
+            &[0, (1 << 48) - 1],
             &["frame 1 drop 9", "frame 2 drop 9"],
         ),
-        Case::of_lists("meter_has_its_own_time", METERS, &metered(64, 64)).list(own_time).lines(&[
-            &first,
-            "frame 2 sent 29 vlan 1 prio 0 tags 0 queues 0 0 0 0 0",
-            &third,
-        ]),
         // 256 millions of millionths are stored with the time 256 though the frame was short.
-        several(
+        timed(
             "meter_stores_when_short",
-            METERS,
-            &metered(64, 64),
-            &[(0, to_a()), (256, to_a()), (511, to_a()), (512, to_a())],
+            (64, 64),
+            &[0, 256, 511, 512],
             &[&first, "frame 2 drop 9", "frame 3 drop 9", &fourth],
         ),
         // The product is 61069 modulo 2^64 and the exact minimum is SMAX.
-        several(
-            "meter_product_passes_64_bits",
-            METERS,
-            &metered(64, 65_535),
-            &[(0, to_a()), (big, to_a())],
-            &[&first, &second],
+        timed("meter_passes_64_bits", (64, 65_535), &[0, 80_453_531_366_811], &[&first, &second]),
+        timed(
+            "meter_without_rate",
+            (128, 0),
+            &[0, 0, 1 << 40],
+            &[&first, &second, "frame 3 drop 9"],
         ),
+        Case::of_lists("meter_has_its_own_time", METERS, &metered(64, 64))
+            .list(own_time)
+            .lines(&[&first, on_port_1, &third]),
         // Drop 8 neither spends nor moves the meter's time.
         several(
             "drop_8_leaves_the_meter",
             METERS,
             &tight,
-            &[(0, long.clone()), (0, to_a()), (256, long), (512, to_a())],
+            &around_drop_8,
             &["frame 1 drop 8", &second, "frame 3 drop 8", &fourth],
-        ),
-        several(
-            "meter_without_rate",
-            METERS,
-            &metered(128, 0),
-            &[(0, to_a()), (0, to_a()), (1 << 40, to_a())],
-            &[&first, &second, "frame 3 drop 9"],
         ),
     ]
 }

@@ -64,7 +64,7 @@ fn one_list_many_streams(rng: &mut Rng, lists: &Lists) -> Result<(), String> {
     }
     same("answers", answers[0], answers[1])?;
     if answers[0] == LoadAnswer::Loaded {
-        same("the lists' image", &images[0] == &image::of_lists(lists), true)?;
+        same("the lists' image", images[0] == image::of_lists(lists), true)?;
     } else {
         same("zeros", images[0].iter().all(|&word| word == 0), true)?;
     }

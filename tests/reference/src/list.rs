@@ -52,7 +52,7 @@ impl<'a> Reader<'a> {
     }
 
     /// The next record; a refusal or the end leaves the place where it is.
-    pub fn next(&mut self) -> Next<'a> {
+    pub fn next_record(&mut self) -> Next<'a> {
         let rest = &self.list[self.place..];
         let Some(&kind) = rest.first() else {
             return if self.broke_off { Next::Refused(52) } else { Next::End };
@@ -125,7 +125,7 @@ fn walk(
 ) -> Option<u32> {
     let mut number = 0;
     loop {
-        match reader.next() {
+        match reader.next_record() {
             Next::End => return None,
             Next::Refused(refusal) => return Some(refusal),
             Next::Record(record) => {
