@@ -3,3 +3,6 @@ pub mod Header
 pub mod Paper
 pub mod Machine
 pub mod Stored
+pub mod Runs
+pub mod Headers
+pub mod Bridge

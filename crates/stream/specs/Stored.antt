@@ -153,5 +153,6 @@ layout-put mark lists k ds rest h nine fits =
   where
     lists′ : List (List ℕ)
     lists′ = put lists k ds
+
     v : ℕ
     v = length (getD lists k [] ++ ds) / sizeOf k
