@@ -7,14 +7,14 @@ use native.Mathlib.Nat.{le-of-eq, le-add-right, add-zero, zero-add, add-suc, suc
 use native.Mathlib.Omega.{arith}
 use native.Mathlib.Decide.{ℕ-discrete}
 use lib.Dec.{ltb, leb, eqb, lit<}
-use lib.ListN.{length, getD, set, take, drop, replicate, length-append, length-take, length-drop, length-set, take-append-drop, length-replicate}
-use lib.Seq.{sets, length-sets, drop-at, take-at, length-take-le}
+use lib.ListN.{length, getD, set, take, drop, replicate, length-append, length-take, length-drop, length-set, take-append-drop, length-replicate, replicate-append-replicate}
+use lib.Seq.{sets, length-sets, drop-at, take-at, take-all}
 use borrow.Author.Tests.{ltb-true, leb-true, eqb-true, not-false}
 use Rattle.crc.specs.Crc.{wordIn, wordsIn, start, finished, checksum}
 use Rattle.crc.specs.Laws.{wordsIn-append}
 use Rattle.laws.specs.Scan.{every, every-at}
-use Rattle.image.specs.Rows.{rows, blank, room, before, rowOf, sizeOf, mostOf, baseOf}
-use Rattle.image.specs.Layout.{imageWords, entryWords, imageIn, layout, countOf, countAt, markAt}
+use Rattle.image.specs.Rows.{Row, rows, blank, room, before, rowOf, sizeOf, mostOf, baseOf}
+use Rattle.image.specs.Layout.{imageWords, entryWords, imageIn, padded, entriesFrom, countsFrom, layout, countOf, countAt, markAt}
 use Rattle.image.specs.Images.{length-layout, layout-count}
 use Rattle.image.specs.Tables.{indexOf, tables, kindOf}
 use Rattle.image.specs.declared.tables.Table.{Table}
@@ -347,3 +347,39 @@ blocks-agree (suc turns) before lists rest (h0 ∷ h1 ∷ h2 ∷ ws) h sound =
 
     buffer : List ℕ
     buffer = layout 0 lists ++ rest
+
+-- ---- whole streams
+
+-- no table has arrived: the image is zero
+entries-none : (k : ℕ) (rs : List Row) → entriesFrom k rs none ≡ replicate (before (length rs) rs) 0
+entries-none k [] = refl
+entries-none k (r ∷ rs) =
+    ap (λ (l : List ℕ). padded (room r) l ++ entriesFrom (suc k) rs none) (nothing k)
+    ∙ ap (λ (l : List ℕ). l ++ entriesFrom (suc k) rs none) (take-all (room r) (replicate (room r) 0) (le-of-eq (length-replicate (room r) 0)))
+    ∙ ap (λ (l : List ℕ). replicate (room r) 0 ++ l) (entries-none (suc k) rs)
+    ∙ replicate-append-replicate (room r) (before (length rs) rs) 0
+
+counts-none : (k : ℕ) (rs : List Row) → countsFrom k rs none ≡ replicate (length rs) 0
+counts-none k [] = refl
+counts-none k (r ∷ rs) =
+    ap (λ (l : List ℕ). length l / r .size ∷ countsFrom (suc k) rs none) (nothing k)
+    ∙ ap (λ (x : ℕ). x ∷ countsFrom (suc k) rs none) (zero-div (r .size))
+    ∙ ap (λ (l : List ℕ). 0 ∷ l) (counts-none (suc k) rs)
+
+pub layout-none : layout 0 none ≡ replicate imageWords 0
+unfolding layout
+layout-none =
+    ap (λ (l : List ℕ). l ++ (countsFrom 0 rows none ++ (0 ∷ replicate 16 0))) (entries-none 0 rows)
+    ∙ ap (λ (l : List ℕ). replicate entryWords 0 ++ (l ++ (0 ∷ replicate 16 0))) (counts-none 0 rows)
+    ∙ replicate-append-replicate entryWords 26 0
+
+agree : (rest ws : List ℕ) → Agrees rest (framed ws) (run (at fresh (layout 0 none ++ rest)) ws)
+unfolding framed run step wordsIn
+agree rest [] = waiting rest none fresh refl
+agree rest (w ∷ ws) =
+    both rest (not (eqb w device)) _ _ _ _ ws (λ _. refusing rest (layout 0 none ++ rest) 1 ws (rest-of 0 none rest))
+    (λ _. blocks-agree (length ws) (w ∷ []) none rest ws (le-refl (length ws)) sound-none)
+
+-- from a fresh state, over a zero image, the machine gives what the paper's form gives
+pub bridge : (rest ws : List ℕ) → Agrees rest (framed ws) (run (at fresh (replicate imageWords 0 ++ rest)) ws)
+bridge rest ws = subst (λ (l : List ℕ). Agrees rest (framed ws) (run (at fresh (l ++ rest)) ws)) layout-none (agree rest ws)
