@@ -21,7 +21,7 @@ use Rattle.image.specs.declared.tables.Table.{Table}
 use Rattle.image.specs.declared.tables.Table.the-variants.{AddressLookup}
 use Rattle.rules.specs.Rules.{ruled}
 use Rattle.stream.specs.Header.{device, idOf, lengthOf, wrong}
-use Rattle.stream.specs.Headers.{Kind, kind, table-index, Right, right, same-wrong}
+use Rattle.stream.specs.Headers.{Kind, kind, table-index, Right, right, right-room, whole-entries, same-wrong}
 use Rattle.stream.specs.Paper.{Framed, refused, cut, passed, none, put, had, checked, blocks, framed}
 use Rattle.stream.specs.Machine.{Machine, at, fresh, idle, headed, sized, filling, told, cleared, refuse, hadIn, placeIn, finish, summed, step, run, answerOf}
 use Rattle.stream.specs.Stored.{put-same, put-other, layout-put}
@@ -92,18 +92,10 @@ sound-none =
     empty s = ap (λ (x : ℕ). x * s) (zero-div s) ∙ zero-mul s
 
 -- a block that its header lets through has room in its table
-module _ (lists : List (List ℕ)) (sound : Sound lists) (k n : ℕ) (ok : Right k n (had lists k)) where
-  -- its words are whole entries
-  entries : n ≡ n / sizeOf k * sizeOf k
-  entries = sym (ap (λ (x : ℕ). n / sizeOf k * sizeOf k + x) (sym (ok .whole)) ∙ div-add-mod' n (sizeOf k)) ∙ add-zero _
-
-  pub fits-after : length (getD lists k []) + n ≤ room (rowOf k)
-  fits-after =
-      subst (λ (x : ℕ). x ≤ room (rowOf k))
-      (add-mul (had lists k) (n / sizeOf k) (sizeOf k)
-      ∙ ap (λ (x : ℕ). x + n / sizeOf k * sizeOf k) (sound .whole k (ok .known))
-      ∙ ap (λ (x : ℕ). length (getD lists k []) + x) (sym entries))
-      (subst (λ (x : ℕ). (had lists k + n / sizeOf k) * sizeOf k ≤ x) (mul-comm (mostOf k) (sizeOf k)) (mul-le-mul-right (sizeOf k) (ok .fits)))
+pub fits-after : (lists : List (List ℕ)) → Sound lists → (k n : ℕ) → Right k n (had lists k) → length (getD lists k []) + n ≤ room (rowOf k)
+fits-after lists sound k n ok =
+    subst (λ (x : ℕ). x + n ≤ room (rowOf k)) (sound .whole k (ok .known))
+    (subst (λ (x : ℕ). had lists k * sizeOf k + n ≤ x) (mul-comm (mostOf k) (sizeOf k)) (right-room k n (had lists k) ok))
 
 -- such a block, put to the lists
 module _ (lists : List (List ℕ)) (sound : Sound lists) (k : ℕ) (ds : List ℕ) (ok : Right k (length ds) (had lists k)) where
@@ -127,7 +119,7 @@ module _ (lists : List (List ℕ)) (sound : Sound lists) (k : ℕ) (ds : List �
           ap (λ (x : ℕ). x * sizeOf k) (sym count-after)
           ∙ add-mul (had lists k) (length ds / sizeOf k) (sizeOf k)
           ∙ ap (λ (x : ℕ). x + length ds / sizeOf k * sizeOf k) (sound .whole k (ok .known))
-          ∙ ap (λ (x : ℕ). length (getD lists k []) + x) (sym (entries lists sound k (length ds) ok))
+          ∙ ap (λ (x : ℕ). length (getD lists k []) + x) (sym (whole-entries (length ds) (sizeOf k) (ok .whole)))
           ∙ sym (length-append (getD lists k []) ds)
 
       fits-here : length (getD lists k [] ++ ds) ≤ room (rowOf k)
@@ -149,15 +141,15 @@ pub cleared-rest : (buffer rest : List ℕ) → drop imageWords buffer ≡ rest 
 unfolding cleared
 cleared-rest buffer rest e = ap (λ (l : List ℕ). replicate imageWords 0 ++ l) e
 
-rest-of : (mark : ℕ) (lists : List (List ℕ)) (rest : List ℕ) → drop imageWords (layout mark lists ++ rest) ≡ rest
+pub rest-of : (mark : ℕ) (lists : List (List ℕ)) (rest : List ℕ) → drop imageWords (layout mark lists ++ rest) ≡ rest
 rest-of mark lists rest = drop-at (layout mark lists) rest imageWords (length-layout mark lists)
 
-image-of : (mark : ℕ) (lists : List (List ℕ)) (rest : List ℕ) → imageIn (layout mark lists ++ rest) ≡ layout mark lists
+pub image-of : (mark : ℕ) (lists : List (List ℕ)) (rest : List ℕ) → imageIn (layout mark lists ++ rest) ≡ layout mark lists
 unfolding imageIn
 image-of mark lists rest = take-at (layout mark lists) rest imageWords (length-layout mark lists)
 
 -- the counts of the image are those of the lists
-had-layout : (lists : List (List ℕ)) (rest : List ℕ) (k : ℕ) → k < 9 → hadIn (layout 0 lists ++ rest) k ≡ had lists k
+pub had-layout : (lists : List (List ℕ)) (rest : List ℕ) (k : ℕ) → k < 9 → hadIn (layout 0 lists ++ rest) k ≡ had lists k
 had-layout lists rest k h = ap (λ (l : List ℕ). countOf l k) (image-of 0 lists rest) ∙ layout-count 0 lists k h
 
 refusing : (rest buffer : List ℕ) (n : ℕ) (ws : List ℕ) → drop imageWords buffer ≡ rest → Agrees rest (refused n) (run (refuse buffer n) ws)

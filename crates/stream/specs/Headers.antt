@@ -3,8 +3,8 @@ use mathlib.Core.Path.{_≡_, refl, sym, _∙_, ap, subst}
 use mathlib.Core.Logic.{_⊎_, inl, inr, ⊎-elim}
 use mathlib.Core.Bool.{Bool, true, false, cond, not, true≢false}
 use mathlib.Core.List.{List}
-use Prim.Native.Nat.{ℕ, zero, suc, _+_, _/_, _%_, _<_, _≤_}
-use native.Mathlib.Nat.{suc-ne-zero, lt-irrefl}
+use Prim.Native.Nat.{ℕ, zero, suc, _+_, _*_, _/_, _%_, _<_, _≤_}
+use native.Mathlib.Nat.{suc-ne-zero, lt-irrefl, add-zero, add-mul, mul-le-mul-right, div-add-mod'}
 use native.Mathlib.Omega.{arith}
 use lib.Dec.{ltb, eqb}
 use lib.ListN.{getD}
@@ -72,3 +72,13 @@ same-wrong k n a b c e =
   where
     at : (v : ℕ) → k ≡ v → wrong v n a ≡ wrong v n b → wrong k n a ≡ wrong k n b
     at v q p = subst (λ (x : ℕ). wrong x n a ≡ wrong x n b) (sym q) p
+
+-- a length of whole entries
+pub whole-entries : (n s : ℕ) → n % s ≡ 0 → n ≡ n / s * s
+whole-entries n s e = sym (ap (λ (x : ℕ). n / s * s + x) (sym e) ∙ div-add-mod' n s) ∙ add-zero _
+
+-- the table has room for what it had and the block's words
+pub right-room : (k n had : ℕ) → Right k n had → had * sizeOf k + n ≤ mostOf k * sizeOf k
+right-room k n had ok =
+    subst (λ (x : ℕ). had * sizeOf k + x ≤ mostOf k * sizeOf k) (sym (whole-entries n (sizeOf k) (ok .whole)))
+    (subst (λ (x : ℕ). x ≤ mostOf k * sizeOf k) (add-mul had (n / sizeOf k) (sizeOf k)) (mul-le-mul-right (sizeOf k) (ok .fits)))

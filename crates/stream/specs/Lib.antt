@@ -6,3 +6,6 @@ pub mod Stored
 pub mod Runs
 pub mod Headers
 pub mod Bridge
+pub mod Ends
+pub mod Fine
+pub mod Cutting

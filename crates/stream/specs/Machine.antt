@@ -13,8 +13,9 @@ use Rattle.image.specs.declared.tables.Table.{Table}
 use Rattle.image.specs.declared.tables.Table.the-variants.{AddressLookup}
 use Rattle.rules.specs.Rules.{ruled}
 use Rattle.stream.specs.Header.{device, idOf, lengthOf, wrong}
+use Rattle.stream.specs.Paper.{numbered}
 use Rattle.stream.specs.declared.Answer.{Answer}
-use Rattle.stream.specs.declared.Answer.the-variants.{More, Loaded, Refused}
+use Rattle.stream.specs.declared.Answer.the-variants.{More, Refused}
 use Rattle.stream.specs.declared.Phase.{Phase}
 use Rattle.stream.specs.declared.Phase.the-variants.{Device, Id, Length, Sum, Data, Told}
 use Rattle.stream.specs.declared.Load.{Load}
@@ -111,10 +112,7 @@ run m (w ∷ ws) = run (step m w) ws
 
 -- ---- a write
 
--- an answer's number in document 01: 0 is loaded; "more" has none
-abbrev pub numbered : ℕ → Answer
-numbered n = cond (eqb n 0) Loaded (Refused n)
-
+-- what a phase answers: "while the end block is incomplete a write answers more"
 abbrev pub answerOf : Phase → Answer
 answerOf Device = More
 answerOf Id = More

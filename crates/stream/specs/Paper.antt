@@ -1,7 +1,7 @@
 -- The paper's form (document 01, "The stream" and "Numbers for a refused load"): a stream is walked block by block, and gives each table's list of words.
 use mathlib.Core.Bool.{Bool, cond, not}
 use mathlib.Core.List.{List, [], _∷_, _++_}
-use Prim.Native.Nat.{ℕ, zero, suc, _+_, _*_, _/_}
+use Prim.Native.Nat.{ℕ, zero, suc, _+_, _*_, _/_, _%_}
 use lib.Dec.{eqb}
 use lib.ListN.{length, getD, take, drop, set, replicate}
 use Rattle.crc.specs.Crc.{checksum}
@@ -9,6 +9,9 @@ use Rattle.image.specs.Rows.{sizeOf}
 use Rattle.image.specs.Layout.{imageWords, imageOf}
 use Rattle.image.specs.Tables.{kindOf}
 use Rattle.rules.specs.Rules.{ruled}
+use Rattle.image.specs.Loaded.{tooShort}
+use Rattle.stream.specs.declared.Answer.{Answer}
+use Rattle.stream.specs.declared.Answer.the-variants.{Loaded, Refused}
 use Rattle.stream.specs.Header.{device, idOf, lengthOf, wrong}
 
 -- what the framing rules make of a stream: refused with a number, cut before its end block is complete, or passed with each table's words
@@ -57,7 +60,7 @@ unfoldable pub framed : List ℕ → Framed
 framed [] = cut
 framed (w ∷ ws) = cond (not (eqb w device)) (refused 1) (blocks (length ws) (w ∷ []) none ws)
 
--- what a whole load comes to: its number, 0 for loaded, and its image
+-- what a stream comes to: its number, 0 for loaded, and its image
 pub record Outcome : Type 0 where
   pub number : ℕ
   pub image : List ℕ
@@ -78,3 +81,40 @@ outcomeOf (passed lists) = ended lists
 
 abbrev pub loaded : List ℕ → Outcome
 loaded words = outcomeOf (framed words)
+
+-- ---- a whole load of words and of bytes
+
+-- what a whole load leaves: its answer and the buffer
+pub record Whole : Type 0 where
+  pub answer : Answer
+  pub buffer : List ℕ
+
+-- an answer by its number in document 01: "answer 0 means loaded"
+abbrev pub numbered : ℕ → Answer
+numbered n = cond (eqb n 0) Loaded (Refused n)
+
+-- the image goes into the buffer's first words, "whose rest is never written"
+abbrev pub into : Outcome → List ℕ → Whole
+into o buffer = record { answer = numbered (o .number); buffer = o .image ++ drop imageWords buffer }
+
+-- "9, 30, 31 and 32 leave everything as found"
+abbrev pub asFound : ℕ → List ℕ → Whole
+asFound n buffer = record { answer = Refused n; buffer = buffer }
+
+-- 31, then the stream
+unfoldable pub loadedWords : List ℕ → List ℕ → Whole
+loadedWords buffer words = cond (tooShort buffer) (asFound 31 buffer) (into (loaded words) buffer)
+
+-- "32-bit words, each sent most significant byte first"
+unfoldable pub wordsOf : List ℕ → List ℕ
+wordsOf (a ∷ b ∷ c ∷ d ∷ bytes) = (((a * 256 + b) * 256 + c) * 256 + d) ∷ wordsOf bytes
+wordsOf (a ∷ b ∷ c ∷ []) = []
+wordsOf (a ∷ b ∷ []) = []
+wordsOf (a ∷ []) = []
+wordsOf [] = []
+
+-- "for byte input 31, 9": "byte input not a multiple of 4 long"
+unfoldable pub loadedBytes : List ℕ → List ℕ → Whole
+loadedBytes buffer bytes =
+    cond (tooShort buffer) (asFound 31 buffer)
+    (cond (not (eqb (length bytes % 4) 0)) (asFound 9 buffer) (into (loaded (wordsOf bytes)) buffer))

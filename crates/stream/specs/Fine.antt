@@ -1,0 +1,249 @@
+-- What 30 asks of a begun load, and that every step keeps it: so no step stores outside its table, and no cutting is ever refused with 30.
+use mathlib.Core.Path.{_≡_, refl, sym, _∙_, ap, subst}
+use mathlib.Core.Logic.{_≢_}
+use mathlib.Core.Bool.{Bool, true, false, cond, not}
+use mathlib.Core.List.{List, [], _∷_, _++_}
+use Prim.Native.Nat.{ℕ, zero, suc, _+_, _-_, _*_, _/_, _<_, _≤_, zero-le}
+use native.Mathlib.Nat.{add-zero, zero-add, add-suc, suc-add, le-refl, le-trans, le-of-suc-le-suc, not-suc-le-zero, lt-irrefl, le-add-right, add-mul, le-of-mul-le-mul-right, div-mul-le-self, mul-comm}
+use native.Mathlib.Decide.{ℕ-discrete}
+use native.Mathlib.Omega.{arith}
+use lib.Dec.{ltb, leb, eqb, lit<}
+use lib.ListN.{length, getD, set, take, drop, replicate, length-append, length-set, length-replicate, getD-replicate}
+use lib.Seq.{getD-set-same, getD-set-other}
+use borrow.Author.Tests.{le-ltb, ltb-false, eqb-true, eqb-false, not-false}
+use Rattle.laws.specs.Chain.{none-first, none-rest}
+use Rattle.image.specs.Rows.{Row, rows, blank, rowOf, sizeOf, mostOf, baseOf, room}
+use Rattle.image.specs.Layout.{imageWords, entryWords, imageIn, countOf, countAt, markAt}
+use Rattle.image.specs.Laws.{getD-in}
+use Rattle.image.specs.Loaded.{aboveFrom, overLimit}
+use Rattle.image.specs.Sound.{Within, within-limits}
+use Rattle.image.specs.Tables.{indexOf, tables, kindOf}
+use Rattle.image.specs.declared.tables.Table.{Table}
+use Rattle.image.specs.declared.tables.Table.the-variants.{AddressLookup}
+use Rattle.rules.specs.Rules.{ruled}
+use Rattle.stream.specs.Header.{device, idOf, lengthOf, wrong}
+use Rattle.stream.specs.Headers.{kind, table-index, Right, right, right-room}
+use Rattle.stream.specs.Machine.{Machine, at, told, cleared, refuse, hadIn, placeIn, finish, summed, filled, stepIn, step, run, begun, overdueIn, damaged}
+use Rattle.stream.specs.Runs.{index-lt, had-kept}
+use Rattle.stream.specs.Bridge.{size-positive, room-inside}
+use Rattle.stream.specs.declared.Phase.{Phase}
+use Rattle.stream.specs.declared.Phase.the-variants.{Device, Id, Length, Sum, Data, Told}
+use Rattle.stream.specs.declared.Load.{Load}
+
+-- inside a block: what is placed and due fits the table's room
+abbrev pub Roomy : Phase → Load → List ℕ → Type 0
+Roomy Device l buffer = Unit {0}
+Roomy Id l buffer = Unit {0}
+Roomy Length l buffer = Unit {0}
+Roomy Sum l buffer = Unit {0}
+Roomy Data l buffer =
+    hadIn buffer (indexOf (l .table)) * sizeOf (indexOf (l .table)) + l .placed + l .due ≤ mostOf (indexOf (l .table)) * sizeOf (indexOf (l .table))
+Roomy (Told n) l buffer = Unit {0}
+
+-- the buffer has an image, every count is within its limit, and what is due has room
+pub record Fine (m : Machine) : Type 0 where
+  pub whole : imageWords ≤ length (m .buffer)
+  pub within : Within (imageIn (m .buffer))
+  pub roomy : Roomy (m .load .phase) (m .load) (m .buffer)
+
+-- the next word's place lies among the entries
+pub placed-inside : (t : Table) (placed due : ℕ) (buffer : List ℕ) → 0 < due
+    → hadIn buffer (indexOf t) * sizeOf (indexOf t) + placed + due ≤ mostOf (indexOf t) * sizeOf (indexOf t)
+    → placeIn buffer (indexOf t) placed < entryWords
+placed-inside t placed due buffer some room =
+    omega (arith, room-inside (indexOf t) (index-lt t), mul-comm (mostOf (indexOf t)) (sizeOf (indexOf t)))
+
+-- ---- the buffers that a step leaves
+length-cleared : (buffer : List ℕ) → imageWords ≤ length (cleared buffer)
+unfolding cleared
+length-cleared buffer =
+    subst (λ (n : ℕ). imageWords ≤ n)
+    (sym (length-append (replicate imageWords 0) (drop imageWords buffer) ∙ ap (λ (n : ℕ). n + length (drop imageWords buffer)) (length-replicate {A = ℕ} imageWords 0)))
+    (le-add-right imageWords (length (drop imageWords buffer)))
+
+-- a cleared image has no entries
+zeros-at : (n : ℕ) (l : List ℕ) (j : ℕ) → j < n → getD (replicate n 0 ++ l) j 0 ≡ 0
+zeros-at zero l j h = absurd (not-suc-le-zero h)
+zeros-at (suc n) l zero h = refl
+zeros-at (suc n) l (suc j) h = zeros-at n l j (le-of-suc-le-suc h)
+
+pub cleared-had : (buffer : List ℕ) (k : ℕ) → k < 9 → hadIn (cleared buffer) k ≡ 0
+unfolding cleared
+cleared-had buffer k h =
+    getD-in (replicate imageWords 0 ++ drop imageWords buffer) (countAt k) (omega arith)
+    ∙ zeros-at imageWords (drop imageWords buffer) (countAt k) (omega arith)
+
+pub cleared-fine : (l : Load) (buffer : List ℕ) → Roomy (l .phase) l (cleared buffer) → Fine (at l (cleared buffer))
+cleared-fine l buffer r =
+    record { whole = length-cleared buffer; within = λ k h. subst (λ (n : ℕ). n ≤ mostOf k) (sym (cleared-had buffer k h)) zero-le; roomy = r }
+
+refuse-fine : (buffer : List ℕ) (n : ℕ) → Fine (refuse buffer n)
+refuse-fine buffer n = cleared-fine (told n) buffer tt
+
+-- a store that leaves the counts
+store-fine : (l : Load) (buffer : List ℕ) (i d : ℕ) → imageWords ≤ length buffer → Within (imageIn buffer)
+    → ((k : ℕ) → k < 9 → hadIn (set buffer i d) k ≡ hadIn buffer k)
+    → Roomy (l .phase) l (set buffer i d)
+    → Fine (at l (set buffer i d))
+store-fine l buffer i d w within kept r =
+    record {
+      whole = subst (λ (n : ℕ). imageWords ≤ n) (sym (length-set buffer i d)) w;
+      within = λ k h. subst (λ (n : ℕ). n ≤ mostOf k) (sym (kept k h)) (within k h);
+      roomy = r;
+    }
+
+-- the mark stands behind the counts
+mark-kept : (buffer : List ℕ) (d k : ℕ) → k < 9 → hadIn (set buffer markAt d) k ≡ hadIn buffer k
+mark-kept buffer d k h =
+    getD-in (set buffer markAt d) (countAt k) (omega arith)
+    ∙ getD-set-other buffer markAt (countAt k) d 0 (λ e. lt-irrefl (countAt k) (subst (λ (x : ℕ). countAt k < x) (sym e) (omega arith)))
+    ∙ sym (getD-in buffer (countAt k) (omega arith))
+
+-- a count that rises stays within its limit, and the others are kept
+counted : (buffer : List ℕ) (k v i : ℕ) → imageWords ≤ length buffer → Within (imageIn buffer) → k < 9 → v ≤ mostOf k → i < 9
+    → hadIn (set buffer (countAt k) v) i ≤ mostOf i
+counted buffer k v i w within h fits hi = decide (ℕ-discrete i k)
+  where
+    decide : Dec (i ≡ k) → hadIn (set buffer (countAt k) v) i ≤ mostOf i
+    decide (yes e) =
+        subst (λ (x : ℕ). hadIn (set buffer (countAt k) v) x ≤ mostOf x) (sym e)
+        (subst (λ (x : ℕ). x ≤ mostOf k)
+        (sym (getD-in (set buffer (countAt k) v) (countAt k) (omega arith) ∙ getD-set-same buffer (countAt k) v 0 (omega arith))) fits)
+    decide (no ne) =
+        subst (λ (x : ℕ). x ≤ mostOf i)
+        (sym
+        (getD-in (set buffer (countAt k) v) (countAt i) (omega arith)
+        ∙ getD-set-other buffer (countAt k) (countAt i) v 0 (λ e. ne (native.Mathlib.Nat.add-left-cancel entryWords e))
+        ∙ sym (getD-in buffer (countAt i) (omega arith))))
+        (within i hi)
+
+-- ---- a step
+choose : (t : Bool) (a b : Machine) → (t ≡ true → Fine a) → (t ≡ false → Fine b) → Fine (cond t a b)
+choose true a b held failed = held refl
+choose false a b held failed = failed refl
+
+same-fine : (l l′ : Load) (buffer : List ℕ) → Fine (at l buffer) → Roomy (l′ .phase) l′ buffer → Fine (at l′ buffer)
+same-fine l l′ buffer f r = record { whole = f .whole; within = f .within; roomy = r }
+
+finish-fine : (l : Load) (buffer : List ℕ) → Fine (at l buffer) → Fine (finish buffer)
+finish-fine l buffer f =
+    choose (eqb (ruled (imageIn (set buffer markAt 1))) 0) _ _
+    (λ _. store-fine (told 0) buffer markAt 1 (f .whole) (f .within) (mark-kept buffer 1) tt)
+    (λ _. refuse-fine buffer (ruled (imageIn (set buffer markAt 1))))
+
+summed-fine : (l : Load) (s h0 h1 : ℕ) (buffer : List ℕ) (w : ℕ) → Fine (at l buffer) → Fine (summed s h0 h1 buffer w)
+summed-fine l s h0 h1 buffer w f =
+    choose (eqb n 0) _ _
+    (λ _. choose (not (eqb w (Rattle.crc.specs.Crc.finished s))) _ _ (λ _. refuse-fine buffer 8) (λ _. finish-fine l buffer f))
+    (λ _. choose (not (eqb w (Rattle.crc.specs.Crc.checksum (h0 ∷ h1 ∷ [])))) _ _ (λ _. refuse-fine buffer 2)
+    (λ _. choose (not (eqb (wrong k n (hadIn buffer k)) 0)) _ _ (λ _. refuse-fine buffer (wrong k n (hadIn buffer k)))
+    (λ e. let ok : Right k n (hadIn buffer k) = right k n (hadIn buffer k) (kind (idOf h0)) (eqb-true _ 0 (not-false _ e)) in
+    record {
+      whole = f .whole;
+      within = f .within;
+      roomy = subst (λ (x : ℕ). hadIn buffer x * sizeOf x + 0 + n ≤ mostOf x * sizeOf x) (sym (table-index k (ok .known))) (fits ok);
+    })))
+  where
+    n : ℕ
+    n = lengthOf h1
+
+    k : ℕ
+    k = kindOf (idOf h0)
+
+    fits : Right k n (hadIn buffer k) → hadIn buffer k * sizeOf k + 0 + n ≤ mostOf k * sizeOf k
+    fits ok = subst (λ (x : ℕ). x + n ≤ mostOf k * sizeOf k) (sym (add-zero _)) (right-room k n (hadIn buffer k) ok)
+
+-- a count that rises by what was placed
+raised : (had placed s most : ℕ) → 0 < s → had * s + placed + 0 ≤ most * s → had + placed / s ≤ most
+raised had placed s most pos h =
+    le-of-mul-le-mul-right
+    (subst (λ (x : ℕ). x ≤ most * s) (sym (add-mul had (placed / s) s))
+    (le-trans (native.Mathlib.Nat.add-le-add (le-refl (had * s)) (div-mul-le-self placed s)) (subst (λ (x : ℕ). x ≤ most * s) (add-zero _) h)))
+    pos
+
+filled-fine : (l : Load) (t : Table) (placed due s b : ℕ) (buffer : List ℕ) (w : ℕ) → Fine (at l buffer)
+    → hadIn buffer (indexOf t) * sizeOf (indexOf t) + placed + due ≤ mostOf (indexOf t) * sizeOf (indexOf t)
+    → Fine (filled t placed due s b buffer w)
+filled-fine l t placed due s b buffer w f room =
+    choose (eqb due 0) _ _
+    (λ e. choose (not (eqb w (Rattle.crc.specs.Crc.finished b))) _ _ (λ _. refuse-fine buffer 7)
+    (λ _. record {
+      whole = subst (λ (n : ℕ). imageWords ≤ n) (sym (length-set buffer _ _)) (f .whole);
+      within = λ i hi. counted buffer (indexOf t) _ i (f .whole) (f .within) (index-lt t)
+          (raised (hadIn buffer (indexOf t)) placed (sizeOf (indexOf t)) (mostOf (indexOf t)) (size-positive (indexOf t) (index-lt t))
+          (subst (λ (x : ℕ). hadIn buffer (indexOf t) * sizeOf (indexOf t) + placed + x ≤ mostOf (indexOf t) * sizeOf (indexOf t)) (eqb-true due 0 e) room)) hi;
+      roomy = tt;
+    }))
+    (λ e. let some : 0 < due = native.Mathlib.Nat.pos-of-ne-zero (eqb-false due 0 e) in
+    let here : placeIn buffer (indexOf t) placed < entryWords = placed-inside t placed due buffer some room in
+    store-fine _ buffer _ w (f .whole) (f .within) (λ k hk. had-kept buffer _ w k here hk)
+    (subst (λ (x : ℕ). x * sizeOf (indexOf t) + (placed + 1) + (due - 1) ≤ mostOf (indexOf t) * sizeOf (indexOf t))
+    (sym (had-kept buffer _ w (indexOf t) here (index-lt t))) (omega arith)))
+
+-- ---- every step, and every run, keeps it
+step-in-fine : (p : Phase) (l : Load) (buffer : List ℕ) (w : ℕ) → Fine (at l buffer) → Roomy p l buffer → Fine (stepIn p l buffer w)
+step-in-fine Device l buffer w f r = choose (not (eqb w device)) _ _ (λ _. refuse-fine buffer 1) (λ _. same-fine l _ buffer f tt)
+step-in-fine Id l buffer w f r = same-fine l _ buffer f tt
+step-in-fine Length l buffer w f r = same-fine l _ buffer f tt
+step-in-fine Sum l buffer w f r = summed-fine l (l .stream) (l .first) (l .second) buffer w f
+step-in-fine Data l buffer w f r = filled-fine l (l .table) (l .placed) (l .due) (l .stream) (l .block) buffer w f r
+step-in-fine (Told n) l buffer w f r = f
+
+pub step-fine : (m : Machine) (w : ℕ) → Fine m → Fine (step m w)
+unfolding step
+step-fine m w f = step-in-fine (m .load .phase) (m .load) (m .buffer) w f (f .roomy)
+
+pub run-fine : (m : Machine) (ws : List ℕ) → Fine m → Fine (run m ws)
+unfolding run
+run-fine m [] f = f
+run-fine m (w ∷ ws) f = run-fine (step m w) ws (step-fine m w f)
+
+-- ---- 30's test is this
+above-none : (k : ℕ) (rs : List Row) (image : List ℕ) → ((j : ℕ) → j < length rs → countOf image (k + j) ≤ getD rs j blank .most) → aboveFrom k rs image ≡ false
+above-none k [] image h = refl
+above-none k (r ∷ rs) image h =
+    ap (λ (t : Bool). cond t true (aboveFrom (suc k) rs image))
+    (le-ltb (r .most) (countOf image k) (subst (λ (x : ℕ). countOf image x ≤ r .most) (add-zero k) (h 0 (omega arith))))
+    ∙ above-none (suc k) rs image
+    (λ j q. subst (λ (x : ℕ). countOf image x ≤ getD rs j blank .most) (add-suc k j ∙ sym (suc-add k j)) (h (suc j) (omega arith)))
+
+pub limits-within : (image : List ℕ) → Within image → overLimit image ≡ false
+unfolding overLimit
+limits-within image h = above-none 0 rows image (λ j q. subst (λ (x : ℕ). countOf image x ≤ mostOf j) (sym (zero-add j)) (h j q))
+
+due-none : (p : Phase) (l : Load) (buffer : List ℕ) → Roomy p l buffer → overdueIn p l (imageIn buffer) ≡ false
+due-none Device l buffer r = refl
+due-none Id l buffer r = refl
+due-none Length l buffer r = refl
+due-none Sum l buffer r = refl
+due-none Data l buffer r = le-ltb _ _ r
+due-none (Told n) l buffer r = refl
+
+none-due : (p : Phase) (l : Load) (buffer : List ℕ) → overdueIn p l (imageIn buffer) ≡ false → Roomy p l buffer
+none-due Device l buffer e = tt
+none-due Id l buffer e = tt
+none-due Length l buffer e = tt
+none-due Sum l buffer e = tt
+none-due Data l buffer e = ltb-false _ _ e
+none-due (Told n) l buffer e = tt
+
+-- a load that is fine is not refused with 30
+pub fine-undamaged : (m : Machine) → Fine m → damaged (m .load) (imageIn (m .buffer)) ≡ false
+fine-undamaged m f = go (begun (m .load .phase))
+  where
+    go : (t : Bool) → cond t (cond (overLimit (imageIn (m .buffer))) true (overdueIn (m .load .phase) (m .load) (imageIn (m .buffer)))) false ≡ false
+    go true =
+        ap (λ (x : Bool). cond x true (overdueIn (m .load .phase) (m .load) (imageIn (m .buffer)))) (limits-within (imageIn (m .buffer)) (f .within))
+        ∙ due-none (m .load .phase) (m .load) (m .buffer) (f .roomy)
+    go false = refl
+
+-- a begun load that 31 and 30 do not refuse is fine
+pub undamaged-fine : (l : Load) (buffer : List ℕ) → imageWords ≤ length buffer → begun (l .phase) ≡ true → damaged l (imageIn buffer) ≡ false → Fine (at l buffer)
+undamaged-fine l buffer w b e =
+    let q : cond (overLimit (imageIn buffer)) true (overdueIn (l .phase) l (imageIn buffer)) ≡ false =
+    sym (ap (λ (t : Bool). cond t (cond (overLimit (imageIn buffer)) true (overdueIn (l .phase) l (imageIn buffer))) false) b) ∙ e in
+    record {
+      whole = w;
+      within = within-limits (imageIn buffer) (none-first (overLimit (imageIn buffer)) _ q);
+      roomy = none-due (l .phase) l buffer (none-rest (overLimit (imageIn buffer)) _ q);
+    }
