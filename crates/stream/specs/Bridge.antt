@@ -57,7 +57,7 @@ pub record Sound (lists : List (List ℕ)) : Type 0 where
   pub whole : (k : ℕ) → k < 9 → had lists k * sizeOf k ≡ length (getD lists k [])
   pub fits : (k : ℕ) → k < 9 → length (getD lists k []) ≤ room (rowOf k)
 
-nothing : (k : ℕ) → getD none k [] ≡ []
+pub nothing : (k : ℕ) → getD none k [] ≡ []
 nothing k = go 9 k
   where
     go : (n k : ℕ) → getD {A = List ℕ} (replicate n []) k [] ≡ []

@@ -9,3 +9,4 @@ pub mod Bridge
 pub mod Ends
 pub mod Fine
 pub mod Cutting
+pub mod Order
