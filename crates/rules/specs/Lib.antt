@@ -1,2 +1,3 @@
 -- The loading rules 20 to 25, and the first one broken.
 pub mod Rules
+pub mod Proved

@@ -54,7 +54,7 @@ placed-inside t placed due buffer some room =
     omega (arith, room-inside (indexOf t) (index-lt t), mul-comm (mostOf (indexOf t)) (sizeOf (indexOf t)))
 
 -- ---- the buffers that a step leaves
-length-cleared : (buffer : List ℕ) → imageWords ≤ length (cleared buffer)
+pub length-cleared : (buffer : List ℕ) → imageWords ≤ length (cleared buffer)
 unfolding cleared
 length-cleared buffer =
     subst (λ (n : ℕ). imageWords ≤ n)
@@ -81,7 +81,7 @@ refuse-fine : (buffer : List ℕ) (n : ℕ) → Fine (refuse buffer n)
 refuse-fine buffer n = cleared-fine (told n) buffer tt
 
 -- a store that leaves the counts
-store-fine : (l : Load) (buffer : List ℕ) (i d : ℕ) → imageWords ≤ length buffer → Within (imageIn buffer)
+pub store-fine : (l : Load) (buffer : List ℕ) (i d : ℕ) → imageWords ≤ length buffer → Within (imageIn buffer)
     → ((k : ℕ) → k < 9 → hadIn (set buffer i d) k ≡ hadIn buffer k)
     → Roomy (l .phase) l (set buffer i d)
     → Fine (at l (set buffer i d))
@@ -93,7 +93,7 @@ store-fine l buffer i d w within kept r =
     }
 
 -- the mark stands behind the counts
-mark-kept : (buffer : List ℕ) (d k : ℕ) → k < 9 → hadIn (set buffer markAt d) k ≡ hadIn buffer k
+pub mark-kept : (buffer : List ℕ) (d k : ℕ) → k < 9 → hadIn (set buffer markAt d) k ≡ hadIn buffer k
 mark-kept buffer d k h =
     getD-in (set buffer markAt d) (countAt k) (omega arith)
     ∙ getD-set-other buffer markAt (countAt k) d 0 (λ e. lt-irrefl (countAt k) (subst (λ (x : ℕ). countAt k < x) (sym e) (omega arith)))

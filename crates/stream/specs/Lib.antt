@@ -10,3 +10,4 @@ pub mod Ends
 pub mod Fine
 pub mod Cutting
 pub mod Order
+pub mod Proved

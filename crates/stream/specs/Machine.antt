@@ -77,14 +77,22 @@ abbrev pub finish : List ℕ → Machine
 finish buffer =
     cond (eqb (ruled (imageIn (set buffer markAt 1))) 0) (at (told 0) (set buffer markAt 1)) (refuse buffer (ruled (imageIn (set buffer markAt 1))))
 
--- a block's third word, which is the global checksum where its length is 0
+-- a block's third word where its length is 0: the global checksum
+abbrev pub endedBy : ℕ → List ℕ → ℕ → Machine
+endedBy s buffer w = cond (not (eqb w (finished s))) (refuse buffer 8) (finish buffer)
+
+-- a header whose checksum is right: 3 to 6, or its n data words are due, with the whole stream's register at s
+abbrev pub begunBy : ℕ → ℕ → ℕ → List ℕ → Machine
+begunBy s h0 n buffer =
+    cond (not (eqb (wrong (kindOf (idOf h0)) n (hadIn buffer (kindOf (idOf h0)))) 0))
+    (refuse buffer (wrong (kindOf (idOf h0)) n (hadIn buffer (kindOf (idOf h0)))))
+    (at (filling (getD tables (kindOf (idOf h0)) AddressLookup) 0 n s start) buffer)
+
+-- a block's third word
 abbrev pub summed : ℕ → ℕ → ℕ → List ℕ → ℕ → Machine
 summed s h0 h1 buffer w =
-    cond (eqb (lengthOf h1) 0) (cond (not (eqb w (finished s))) (refuse buffer 8) (finish buffer))
-    (cond (not (eqb w (checksum (h0 ∷ h1 ∷ [])))) (refuse buffer 2)
-    (cond (not (eqb (wrong (kindOf (idOf h0)) (lengthOf h1) (hadIn buffer (kindOf (idOf h0)))) 0))
-    (refuse buffer (wrong (kindOf (idOf h0)) (lengthOf h1) (hadIn buffer (kindOf (idOf h0)))))
-    (at (filling (getD tables (kindOf (idOf h0)) AddressLookup) 0 (lengthOf h1) (wordIn s w) start) buffer)))
+    cond (eqb (lengthOf h1) 0) (endedBy s buffer w)
+    (cond (not (eqb w (checksum (h0 ∷ h1 ∷ [])))) (refuse buffer 2) (begunBy (wordIn s w) h0 (lengthOf h1) buffer))
 
 -- a data word, or their checksum where none is due: a count rises when its block's checksum has passed
 abbrev pub filled : Table → ℕ → ℕ → ℕ → ℕ → List ℕ → ℕ → Machine

@@ -1,0 +1,3 @@
+-- Laws that several of the loader's proofs cite.
+pub mod Laws
+pub mod Headers

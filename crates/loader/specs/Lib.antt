@@ -1,0 +1,2 @@
+-- What the loader's functions promise, over the forms of `stream`.
+pub mod Leaves
