@@ -6,13 +6,13 @@ use stream::Load;
 use stream::Phase;
 ghost use mathlib.Core.Path.{_≡_};
 ghost use mathlib.Core.List.{[], _∷_};
-ghost use Prim.Native.Nat.{_+_, _*_, _<_, _≤_};
+ghost use Prim.Native.Nat.{_+_, _-_, _*_, _/_, _<_, _≤_};
 ghost use lib.ListN.{length};
-ghost use Rattle.image.specs.Layout.{imageWords, imageIn};
+ghost use Rattle.image.specs.Layout.{imageWords, entryWords, imageIn};
 ghost use Rattle.image.specs.Sound.{Within};
 ghost use Rattle.image.specs.Tables.{kindOf, indexOf};
 ghost use Rattle.image.specs.Rows.{sizeOf, mostOf};
-ghost use Rattle.stream.specs.Machine.{at, fresh, idle, headed, sized, filling, told, cleared, refuse, hadIn, finish, endedBy, begunBy, summed};
+ghost use Rattle.stream.specs.Machine.{at, fresh, idle, headed, sized, filling, told, cleared, refuse, hadIn, placeIn, finish, endedBy, begunBy, summed};
 ghost use Rattle.crc.specs.Crc.{checksum};
 ghost use Rattle.stream.specs.Header.{idOf};
 ghost use Rattle.loader.specs.Leaves.{Leaves, headerOf};
@@ -196,4 +196,26 @@ fn summed(image: &mut [u32], stream: u32, first: u32, second: u32, w: u32) -> Lo
         return refuse(image, 2);
     }
     begun(image, crc::word_in(stream, w), first, wide(n))
+}
+
+// Where the next word of a block goes.
+fn place_of(image: &[u32], table: Table, placed: usize, due: usize) -> usize
+    requires { ⌜ imageWords ≤ length (now image) ⌝ }
+    requires { ⌜ hadIn (now image) (indexOf table) * sizeOf (indexOf table) + placed + due ≤ mostOf (indexOf table) * sizeOf (indexOf table) ⌝ }
+    ensures { λ r. ⌜ (r ≡ placeIn (now (image .entry)) (indexOf table) placed) × (r + due ≤ entryWords) ⌝ }
+{
+    let size = image::tables::size_of(table);
+    let had = image::counts::count(image, image::tables::index_of(table));
+    image::tables::base_of(table) + had * size + placed
+}
+
+// A table's count once a block's checksum has passed.
+fn raised(image: &[u32], table: Table, placed: usize) -> u32
+    requires { ⌜ imageWords ≤ length (now image) ⌝ }
+    requires { ⌜ hadIn (now image) (indexOf table) * sizeOf (indexOf table) + placed ≤ mostOf (indexOf table) * sizeOf (indexOf table) ⌝ }
+    ensures { λ r. ⌜ r ≡ hadIn (now (image .entry)) (indexOf table) + placed / sizeOf (indexOf table) ⌝ }
+{
+    let size = image::tables::size_of(table);
+    let had = image::counts::count(image, image::tables::index_of(table));
+    (had + placed / size) as u32
 }
