@@ -3,27 +3,32 @@ use mathlib.Core.Path.{_≡_, refl, sym, _∙_, ap, subst}
 use mathlib.Core.Logic.{_≢_}
 use mathlib.Core.Bool.{Bool, true, false, cond, not}
 use mathlib.Core.List.{List, [], _∷_, _++_}
-use Prim.Native.Nat.{ℕ, _<_, _≤_}
-use lib.Dec.{eqb, lit<}
+use Prim.Native.Nat.{ℕ, _+_, _*_, _/_, _<_, _≤_}
+use native.Mathlib.Nat.{mul-comm, add-zero}
+use lib.Dec.{leb, eqb, lit<}
 use native.Mathlib.Omega.{arith}
 use lib.ListN.{length, getD, set, drop, replicate, length-set}
 use lib.Seq.{drop-set-lt}
-use borrow.Author.Tests.{eq-eqb, ne-eqb}
+use borrow.Author.Tests.{leb-true, eq-eqb, ne-eqb}
+use Rattle.laws.specs.Scan.{every, every-at}
 use Rattle.laws.specs.Chain.{hit, pass, hit-eq, pass-eq, hit-ne, pass-ne}
 use Rattle.crc.specs.Crc.{wordIn, wordsIn, start, finished, checksum}
-use Rattle.image.specs.Layout.{imageWords, imageIn, markAt}
+use Rattle.image.specs.Rows.{sizeOf, mostOf, baseOf}
+use Rattle.image.specs.Layout.{imageWords, entryWords, imageIn, markAt}
 use Rattle.image.specs.Sound.{Within, Bounded, bounded}
-use Rattle.image.specs.Tables.{kindOf, tables}
+use Rattle.image.specs.Tables.{indexOf, kindOf, tables}
 use Rattle.image.specs.declared.tables.Table.{Table}
 use Rattle.image.specs.declared.tables.Table.the-variants.{AddressLookup}
 use Rattle.rules.specs.Rules.{ruled}
 use Rattle.stream.specs.Header.{idOf, lengthOf, wrong}
-use Rattle.stream.specs.Machine.{Machine, at, told, filling, cleared, refuse, hadIn, finish, endedBy, begunBy, summed}
+use Rattle.stream.specs.Machine.{Machine, at, told, filling, cleared, refuse, hadIn, placeIn, finish, endedBy, begunBy, summed}
 use Rattle.stream.specs.declared.Load.{Load}
 use Rattle.loader.specs.Leaves.{Leaves, headerOf}
 use Rattle.loader.specs.declared.Header.{Header}
 use Rattle.loader.specs.declared.Header.the-variants.{Wrong, Right}
-use Rattle.stream.specs.Fine.{Fine, store-fine, mark-kept}
+use Rattle.stream.specs.Runs.{index-lt}
+use Rattle.stream.specs.Bridge.{size-positive, room-inside}
+use Rattle.stream.specs.Fine.{Fine, store-fine, mark-kept, raised}
 
 -- what is left is also an equal machine's
 pub so : {m n : Machine} {r : Load} {b : List ℕ} → m ≡ n → Leaves m r b → Leaves n r b
@@ -97,3 +102,38 @@ summed-on s h0 h1 w sum s2 n buffer ne e q es en =
 pub two-words : (h0 h1 a b f : ℕ) → a ≡ wordIn start h0 → b ≡ wordIn a h1 → f ≡ finished b → f ≡ checksum (h0 ∷ h1 ∷ [])
 unfolding checksum wordsIn
 two-words h0 h1 a b f ea eb ef = ef ∙ ap finished (eb ∙ ap (λ (x : ℕ). wordIn x h1) ea)
+
+-- ---- a block's place
+module _ (t : Table) (buffer : List ℕ) (s i had : ℕ) (size : s ≡ sizeOf (indexOf t)) (index : i ≡ indexOf t) (count : had ≡ hadIn buffer i) where
+  pub had-is : had ≡ hadIn buffer (indexOf t)
+  had-is = count ∙ ap (λ (x : ℕ). hadIn buffer x) index
+
+  pub words-had : had * s ≡ hadIn buffer (indexOf t) * sizeOf (indexOf t)
+  words-had = ap (λ (x : ℕ). x * s) had-is ∙ ap (λ (x : ℕ). hadIn buffer (indexOf t) * x) size
+
+  -- the place and what follows it lie among the entries
+  pub place-bound : (base placed due : ℕ) → base ≡ baseOf (indexOf t)
+      → hadIn buffer (indexOf t) * sizeOf (indexOf t) + placed + due ≤ mostOf (indexOf t) * sizeOf (indexOf t)
+      → base + had * s + placed + due ≤ entryWords
+  place-bound base placed due e room =
+      omega (arith, words-had, room-inside (indexOf t) (index-lt t), mul-comm (mostOf (indexOf t)) (sizeOf (indexOf t)))
+
+  pub place-is : (base placed : ℕ) → base ≡ baseOf (indexOf t) → base + had * s + placed ≡ placeIn buffer (indexOf t) placed
+  place-is base placed e = ap (λ (x : ℕ). x + had * s + placed) e ∙ ap (λ (x : ℕ). baseOf (indexOf t) + x + placed) words-had
+
+  pub raised-is : (placed : ℕ) → had + placed / s ≡ hadIn buffer (indexOf t) + placed / sizeOf (indexOf t)
+  raised-is placed = ap (λ (x : ℕ). x + placed / s) had-is ∙ ap (λ (x : ℕ). hadIn buffer (indexOf t) + placed / x) size
+
+  -- the count after the block is within the table's limit
+  pub raised-bound : (placed : ℕ) → hadIn buffer (indexOf t) * sizeOf (indexOf t) + placed ≤ mostOf (indexOf t) * sizeOf (indexOf t) → had + placed / s ≤ mostOf (indexOf t)
+  raised-bound placed room =
+      subst (λ (x : ℕ). x ≤ mostOf (indexOf t)) (sym (raised-is placed))
+      (raised (hadIn buffer (indexOf t)) placed (sizeOf (indexOf t)) (mostOf (indexOf t)) (size-positive (indexOf t) (index-lt t))
+      (subst (λ (x : ℕ). x ≤ mostOf (indexOf t) * sizeOf (indexOf t)) (sym (add-zero _)) room))
+
+all-mosts : every 9 (λ k. leb (mostOf k) 4096) ≡ true
+unfolding every
+all-mosts = refl
+
+pub most-small : (t : Table) → mostOf (indexOf t) ≤ 4096
+most-small t = leb-true _ 4096 (every-at 9 (indexOf t) (λ k. leb (mostOf k) 4096) all-mosts (index-lt t))

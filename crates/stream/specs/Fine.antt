@@ -154,7 +154,7 @@ summed-fine l s h0 h1 buffer w f =
     fits ok = subst (λ (x : ℕ). x + n ≤ mostOf k * sizeOf k) (sym (add-zero _)) (right-room k n (hadIn buffer k) ok)
 
 -- a count that rises by what was placed
-raised : (had placed s most : ℕ) → 0 < s → had * s + placed + 0 ≤ most * s → had + placed / s ≤ most
+pub raised : (had placed s most : ℕ) → 0 < s → had * s + placed + 0 ≤ most * s → had + placed / s ≤ most
 raised had placed s most pos h =
     le-of-mul-le-mul-right
     (subst (λ (x : ℕ). x ≤ most * s) (sym (add-mul had (placed / s) s))

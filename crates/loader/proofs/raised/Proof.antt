@@ -1,48 +1,37 @@
+-- `loader::raised`: what 30 asked keeps the count within its limit.
+use mathlib.Core.Path.{_≡_}
+use Prim.Native.Nat.{ℕ, _≤_, _+_, _/_}
+use native.Mathlib.Nat.{le-trans}
+use native.Mathlib.Omega.{arith}
 use borrow.Author.Needs.{needs}
+use denote.Ref.{now}
+use Rattle.loader.proofs.Laws.{raised-bound, raised-is, most-small}
 use Rattle.loader.proofs.raised.Statement.{statement}
 use Rattle.loader.proofs.raised.Tie as tie
-use Rattle.loader.proofs.raised.Reads as reads
-use Rattle.loader.proofs.raised.Lts as lts
-use Rattle.image.proofs.counts.count.Reads as count-reads
-use Rattle.image.proofs.tables.index_of.Reads as index-of-reads
-use Rattle.image.proofs.tables.size_of.Reads as size-of-reads
 
--- src/lib.rt:218:9
-size-of-requires : tie.Need-size-of-requires
-size-of-requires c κs = search needs
-
--- src/lib.rt:219:43
-index-of-requires : tie.Need-index-of-requires
-index-of-requires c κs = search needs
-
--- src/lib.rt:219:9
-count-requires : tie.Need-count-requires
-count-requires c κs = search needs
-
--- src/lib.rt:220:12
-div-result : tie.Need-div-result
-div-result c = search needs
-
--- src/lib.rt:220:6
-add-result : tie.Need-add-result
-add-result c = search needs
-
--- src/lib.rt:220:5
-cast-result : tie.Need-cast-result
-cast-result c = search needs
-
--- src/lib.rt:213:1
-returns : tie.Need-returns
-returns c = search needs
+bound : (c : tie.After-count) → c .count .result + c .before .before .before .before .args .placed / c .before .before .size-of .result ≤ 4096
+bound c =
+    let a = c .before .before .before .before in
+    le-trans
+    (raised-bound (a .args .table) (now (a .args .image)) _ (c .before .index-of .result) _ (c .before .before .size-of .ensures .0)
+    (c .before .index-of .ensures .0)
+    (c .count .ensures .0)
+    _
+    (a .pre .1))
+    (most-small (a .args .table))
 
 pub raised-spec : {M : Type 1} → statement M
 raised-spec =
     tie.close
     (tie.spec
-    size-of-requires
-    index-of-requires
-    count-requires
-    div-result
-    add-result
-    cast-result
-    returns)
+    (λ c κs. search needs)
+    (λ c κs. search needs)
+    (λ c κs. search needs)
+    (λ c. search needs)
+    (λ c. record { fits = omega (arith, bound c) })
+    (λ c. record { fits = omega (arith, bound c) })
+    (λ c. let a = c .before .before .before .before in
+    raised-is (a .args .table) (now (a .args .image)) _ (c .before .index-of .result) _ (c .before .before .size-of .ensures .0)
+    (c .before .index-of .ensures .0)
+    (c .count .ensures .0)
+    _))
