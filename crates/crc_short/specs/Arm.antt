@@ -56,8 +56,9 @@ pick-entry n (suc m) p k h =
     (lt-of-lt-of-le (shl-lt m (suc p) (mod-lt (k / 2) (pow-pos m))) (pow-mono {j = 32} (omega arith)))
     ∙ ap (λ (x : ℕ). twice (bitsOut n x)) (digits-place m p k)
 
--- the arm at k
-pub arm : (n : ℕ) (es : List ℕ) (k v b : ℕ) → es ≡ basis n 0 8 → k < 256 → T (eqb v (pick es k)) → b ≡ k → v ≡ twice (bitsOut n b)
+-- the arm at 256 + k, for the byte k. With 256 added a lookup is one load: on the byte by itself the compiler spends one step more
+pub arm : (n : ℕ) (es : List ℕ) (k v b : ℕ) → es ≡ basis n 0 8 → k < 256 → T (eqb v (pick es k)) → b + 256 ≡ k + 256 → v ≡ twice (bitsOut n b)
 arm n es k v b p h t e =
+    let same : k ≡ b = omega arith in
     eqb→eq v (pick es k) t ∙ ap (λ (l : List ℕ). pick l k) p ∙ pick-entry n 8 0 k (omega arith)
-    ∙ ap (λ (x : ℕ). twice (bitsOut n x)) (mul-one (k % 256) ∙ mod-eq-of-lt h ∙ sym e)
+    ∙ ap (λ (x : ℕ). twice (bitsOut n x)) (mul-one (k % 256) ∙ mod-eq-of-lt h ∙ same)

@@ -21,6 +21,7 @@ pub byte0-spec : {M : Type 1} → statement M
 byte0-spec =
     tie.close
     (tie.spec
+    (λ c. search needs)
     (λ c κs. search needs)
     (λ c. arm 64 powers 0 _ _ are (lit< tt) tt (c .match .keys1))
     (λ c. arm 64 powers 1 _ _ are (lit< tt) tt (c .match .keys2))

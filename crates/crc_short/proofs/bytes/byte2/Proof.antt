@@ -21,6 +21,7 @@ pub byte2-spec : {M : Type 1} → statement M
 byte2-spec =
     tie.close
     (tie.spec
+    (λ c. search needs)
     (λ c κs. search needs)
     (λ c. arm 48 powers 0 _ _ are (lit< tt) tt (c .match .keys1))
     (λ c. arm 48 powers 1 _ _ are (lit< tt) tt (c .match .keys2))
