@@ -1,6 +1,6 @@
 -- CRC-32 by table, four words a turn. The first word of a turn meets the register; what the other three leave does not depend on it,
 -- so that two registers share it.
-use mathlib.Core.Path.{_≡_, sym, ap, ap₂, _∙_}
+use mathlib.Core.Path.{_≡_, sym, ap₂, _∙_}
 use mathlib.Core.List.{List, [], _∷_}
 use Prim.Native.Nat.{ℕ, suc, _+_, _-_, _*_, _/_, _%_, _^_, _≤_, _<_}
 use native.Mathlib.Omega.{arith}
@@ -9,7 +9,7 @@ use native.Mathlib.Numerals.{towards-suc}
 use lib.Bits.{bitXor}
 use lib.ListN.{length, getD, drop}
 use lib.Seq.{drop-cons}
-use Rattle.crc.specs.Crc.{bitsOut, wordIn, wordsIn}
+use Rattle.crc.specs.Crc.{bitsOut, wordsIn}
 use Rattle.crc.specs.Xor.{xor-assoc}
 use Rattle.crc.specs.Laws.{bitsOut-bytes, wordsIn-four}
 use Rattle.crc_table.specs.Table.{entry, IsTable}

@@ -1,10 +1,9 @@
 -- A number that holds a register, in its low half, and the same register two words later, in its high half. It is linear, as the register is.
-use mathlib.Core.Path.{_≡_, ap, ap₂, _∙_, sym}
-use Prim.Native.Nat.{ℕ, _+_, _*_, _/_, _%_, _^_, _<_}
-use native.Mathlib.Omega.{arith}
+use mathlib.Core.Path.{_≡_, ap, _∙_, sym}
+use Prim.Native.Nat.{ℕ, _+_, _*_, _^_, _<_}
 use lib.Bits.{bitXor, xor-block}
 use Rattle.crc.specs.Crc.{bitsOut}
-use Rattle.crc.specs.Laws.{bitsOut-lt, bitsOut-linear, bitsOut-bytes}
+use Rattle.crc.specs.Laws.{bitsOut-lt, bitsOut-linear}
 
 unfoldable pub twice : ℕ → ℕ
 twice z = bitsOut 64 z * 2 ^ 32 + z

@@ -7,7 +7,7 @@ ghost use mathlib.Core.Path.{_≡_};
 ghost use Prim.Native.Nat.{_/_, _^_};
 ghost use Rattle.crc.specs.Crc.{bitsOut, wordsIn};
 ghost use Rattle.crc_short.specs.Twice.{twice};
-ghost use Rattle.crc_short.specs.Queue.{Moves, registerOf, rotated};
+ghost use Rattle.crc_short.specs.Queue.{Moves, registerOf};
 use crc::Both;
 
 // What the last step and the one before left: a and c of the block's register, b and d of the stream's, the older first.

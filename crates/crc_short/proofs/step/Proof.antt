@@ -2,7 +2,6 @@
 use mathlib.Core.Path.{_≡_, refl, _∙_}
 use Prim.Native.Nat.{_-_, _≤_}
 use borrow.Author.Needs.{needs}
-use Rattle.crc_short.specs.declared.Queue.{Queue}
 use Rattle.crc_short.specs.Queue.{rotated, rotated-next, rotated-done, both-move}
 use Rattle.crc_short.proofs.step.Statement.{statement}
 use Rattle.crc_short.proofs.step.Tie as tie
