@@ -44,10 +44,10 @@ for _ in range(1000):
 
 for words in [made[:n] for n in list(range(21)) + [999, 1000]] + [stream]:
     alone, after = crc(words), crc([0x9E00030E] + words)
-    lines.append("words_in %d %08x" % (len(words), alone))
-    lines.append("long words_in %d %08x" % (len(words), alone))
-    lines.append("words_in_both %d %08x %08x" % (len(words), alone, after))
-    lines.append("long words_in_both %d %08x %08x" % (len(words), alone, after))
+    for name in ["words_in", "long words_in", "short words_in"]:
+        lines.append("%s %d %08x" % (name, len(words), alone))
+    for name in ["words_in_both", "long words_in_both", "short words_in_both"]:
+        lines.append("%s %d %08x %08x" % (name, len(words), alone, after))
 
 with open("stdout", "w") as f:
     f.write("\n".join(lines) + "\n")

@@ -1,7 +1,6 @@
 -- Values of CRC-32 that others publish, computed from the definition: they hold its polynomial, its start, its end and its order of bytes and bits.
 use mathlib.Core.Path.{_≡_, refl}
-use mathlib.Core.List.{List, [], _∷_}
-use Prim.Native.Nat.{ℕ}
+use mathlib.Core.List.{[], _∷_}
 use Rattle.crc.specs.Crc.{bit, bitsOut, byteIn, bytesIn, bytesOf, wordIn, wordsIn, start, finished, checksum}
 
 -- the check value of CRC-32: of the nine bytes of ASCII 123456789

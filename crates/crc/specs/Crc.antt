@@ -1,6 +1,6 @@
 -- CRC-32 as IEEE 802.3 (clause 3.2.9) defines it, bit by bit, over bytes and over 32-bit words with the low byte first (document 01, the checksums of a stream).
 -- A register is a number below 2^32 whose lowest bit is the next to leave: the standard's polynomial stands reflected.
-use mathlib.Core.List.{List, [], _∷_, _++_}
+use mathlib.Core.List.{List, [], _∷_}
 use Prim.Native.Nat.{ℕ, zero, suc, _*_, _/_, _%_}
 use lib.Bits.{bitXor}
 

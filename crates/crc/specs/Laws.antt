@@ -1,14 +1,14 @@
 -- Laws of CRC-32: what a run in parts gives, the range of a register, linearity over exclusive or, and a word or four as bits that leave.
-use mathlib.Core.Path.{_≡_, refl, sym, ap, ap₂, _∙_, subst}
+use mathlib.Core.Path.{_≡_, refl, sym, ap, ap₂, _∙_}
 use mathlib.Core.List.{List, [], _∷_, _++_}
-use Prim.Native.Nat.{ℕ, zero, suc, _+_, _*_, _/_, _%_, _^_, _≤_, _<_}
-use native.Mathlib.Nat.{mod-lt, mod-eq-of-lt, mul-one, zero-add, suc-add, add-comm}
+use Prim.Native.Nat.{ℕ, zero, suc, _+_, _-_, _*_, _/_, _%_, _^_, _≤_, _<_}
+use native.Mathlib.Nat.{mod-lt, mod-eq-of-lt, mul-one, zero-add, suc-add, le-of-eq}
 use native.Mathlib.Omega.{arith}
 use lib.Dec.{lit<}
 use lib.Pow.{pow-pos, mod-pow-add}
-use lib.Bits.{bitXor, differ, xor-lt, xor-comm, xor-self, xor-zero-r, xor-mod, xor-shr, xor-shifted, shifted-even, shifted-half}
-use lib.ListN.{length, getD, drop}
-use lib.Seq.{drop-cons}
+use lib.Bits.{bitXor, differ, xor-lt, xor-comm, xor-self, xor-zero-r, xor-mod, xor-shifted, shifted-even, shifted-half}
+use lib.ListN.{length, getD, take, drop, length-drop}
+use lib.Seq.{drop-cons, take-all}
 use native.Mathlib.Numerals.{add-one}
 use Rattle.crc.specs.Crc.{bit, bitsOut, byteIn, bytesIn, bytesOf, wordIn, wordsIn, start, finished, checksum}
 use Rattle.crc.specs.Xor.{odd-lt, xor-odd, xor-half, xor-assoc, xor-pairs}
@@ -24,6 +24,15 @@ pub wordsIn-append : (r : ℕ) (vs ws : List ℕ) → wordsIn r (vs ++ ws) ≡ w
 unfolding wordsIn
 wordsIn-append r [] ws = refl
 wordsIn-append r (v ∷ vs) ws = wordsIn-append (wordIn r v) vs ws
+
+pub wordsIn-snoc : (r : ℕ) (ws : List ℕ) (w : ℕ) → wordsIn r (ws ++ (w ∷ [])) ≡ wordIn (wordsIn r ws) w
+unfolding wordsIn
+wordsIn-snoc r ws w = wordsIn-append r ws (w ∷ [])
+
+-- the checksum of two words, as a block's header has it
+pub checksum-two : (v w : ℕ) → checksum (v ∷ w ∷ []) ≡ finished (wordIn (wordIn start v) w)
+unfolding checksum wordsIn
+checksum-two v w = refl
 
 -- the bytes of words, each word's low byte first
 unfoldable pub bytesOfAll : List ℕ → List ℕ
@@ -221,3 +230,8 @@ wordsIn-done r t [] zero h p = p
 wordsIn-done r t [] (suc i) h p = p
 wordsIn-done r t (w ∷ ws) zero h p = absurd (omega arith)
 wordsIn-done r t (w ∷ ws) (suc i) h p = wordsIn-done r t ws i (omega arith) p
+
+-- what a run leaves over goes in by itself
+pub wordsIn-rest : (r s t : ℕ) (ws : List ℕ) (i : ℕ) → s ≡ wordsIn r (take (length ws - i) (drop i ws)) → wordsIn r (drop i ws) ≡ t
+    → s ≡ t
+wordsIn-rest r s t ws i e p = e ∙ ap (wordsIn r) (take-all (length ws - i) (drop i ws) (le-of-eq (length-drop i ws))) ∙ p

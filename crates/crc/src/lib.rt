@@ -23,7 +23,7 @@ fn bit_out(r: u32) -> u32
 }
 
 // k bits leave the register.
-fn bits_out(r: u32, k: u32) -> u32
+pub fn bits_out(r: u32, k: u32) -> u32
     ensures { λ x. ⌜ x ≡ bitsOut k r ⌝ }
 {
     let mut x = r;

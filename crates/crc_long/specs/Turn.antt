@@ -1,15 +1,15 @@
 -- CRC-32 by table, four words a turn. The first word of a turn meets the register; what the other three leave does not depend on it,
 -- so that two registers share it.
-use mathlib.Core.Path.{_≡_, sym, ap, ap₂, _∙_}
+use mathlib.Core.Path.{_≡_, sym, ap₂, _∙_}
 use mathlib.Core.List.{List, [], _∷_}
 use Prim.Native.Nat.{ℕ, suc, _+_, _-_, _*_, _/_, _%_, _^_, _≤_, _<_}
 use native.Mathlib.Omega.{arith}
-use native.Mathlib.Nat.{zero-add, le-of-eq}
+use native.Mathlib.Nat.{zero-add}
 use native.Mathlib.Numerals.{towards-suc}
 use lib.Bits.{bitXor}
-use lib.ListN.{length, getD, take, drop, length-drop}
-use lib.Seq.{drop-cons, take-all}
-use Rattle.crc.specs.Crc.{bitsOut, wordIn, wordsIn}
+use lib.ListN.{length, getD, drop}
+use lib.Seq.{drop-cons}
+use Rattle.crc.specs.Crc.{bitsOut, wordsIn}
 use Rattle.crc.specs.Xor.{xor-assoc}
 use Rattle.crc.specs.Laws.{bitsOut-bytes, wordsIn-four}
 use Rattle.crc_table.specs.Table.{entry, IsTable}
@@ -64,7 +64,3 @@ pub turn-more : (r s t : ℕ) (ws : List ℕ) (i : ℕ) → 4 ≤ length ws - i
     → wordsIn s (drop (i + 4) ws) ≡ t
 unfolding wordsIn
 turn-more r s t ws i h e p = rw e (rw (four-left ws i (omega arith)) at p)
-
--- what is left after the last whole turn
-pub turn-done : (r s t : ℕ) (ws : List ℕ) (i : ℕ) → s ≡ wordsIn r (take (length ws - i) (drop i ws)) → wordsIn r (drop i ws) ≡ t → s ≡ t
-turn-done r s t ws i e p = e ∙ ap (wordsIn r) (take-all (length ws - i) (drop i ws) (le-of-eq (length-drop i ws))) ∙ p

@@ -1,4 +1,4 @@
-// The entries of the four tables, as specs/Table.antt defines them: entry 256 j + b is the byte b after 32 n + 8 (j + 1) bits have left, for a word that n words follow.
+// The entries of the four tables, made by entries.py as specs/Table.antt defines them: entry 256 j + b is the byte b after 32 n + 8 (j + 1) bits have left, for a word that n words follow.
 pub const FIRST: [u32; 1024] = [
     0x00000000,
     0xDD96D985,

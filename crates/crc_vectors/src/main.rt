@@ -149,7 +149,53 @@ fn run_bytes(bytes: &[u8]) {
     print_line(b"byte_in ", bytes.len(), crc::finish(r));
 }
 
-// The first n words, in every way. The second register of two begins after the word 9E00030E, as a stream's does.
+// A run of n words into one register, in every way.
+fn run_one(
+    first: &[u32; 1024],
+    second: &[u32; 1024],
+    third: &[u32; 1024],
+    last: &[u32; 1024],
+    words: &[u32],
+    n: usize,
+)
+    requires { ⌜ AreTables (now first) (now second) (now third) (now last) ⌝ }
+{
+    let long = crc_long::words_in(first, second, third, last, crc::START, words);
+    print_line(b"words_in ", n, crc::checksum(words));
+    print_line(b"long words_in ", n, crc::finish(long));
+    print_line(
+        b"short words_in ",
+        n,
+        crc::finish(crc_short::words_in(crc::START, words)),
+    );
+}
+
+// The same into two. The second register begins after the word 9E00030E, as a stream's does.
+fn run_two(
+    first: &[u32; 1024],
+    second: &[u32; 1024],
+    third: &[u32; 1024],
+    last: &[u32; 1024],
+    words: &[u32],
+    n: usize,
+)
+    requires { ⌜ AreTables (now first) (now second) (now third) (now last) ⌝ }
+{
+    let both = Both {
+        block: crc::START,
+        stream: crc::word_in(crc::START, 0x9E00_030E),
+    };
+    let long = crc_long::words_in_both(first, second, third, last, both, words);
+    print_both(b"words_in_both ", n, crc::words_in_both(both, words));
+    print_both(b"long words_in_both ", n, long);
+    print_both(
+        b"short words_in_both ",
+        n,
+        crc_short::words_in_both(both, words),
+    );
+}
+
+// The first n words.
 fn run(
     first: &[u32; 1024],
     second: &[u32; 1024],
@@ -163,23 +209,9 @@ fn run(
     if words.len() < n {
         return;
     }
-    let run = &words[..n];
-    let both = Both {
-        block: crc::START,
-        stream: crc::word_in(crc::START, 0x9E00_030E),
-    };
-    print_line(b"words_in ", n, crc::finish(crc::words_in(crc::START, run)));
-    print_line(
-        b"long words_in ",
-        n,
-        crc::finish(crc_long::words_in(first, second, third, last, crc::START, run)),
-    );
-    print_both(b"words_in_both ", n, crc::words_in_both(both, run));
-    print_both(
-        b"long words_in_both ",
-        n,
-        crc_long::words_in_both(first, second, third, last, both, run),
-    );
+    let part = &words[..n];
+    run_one(first, second, third, last, part, n);
+    run_two(first, second, third, last, part, n);
 }
 
 // Every length up to twenty, so that a run by four leaves over each number of words several times; long runs; and a whole stream.

@@ -1,6 +1,6 @@
 -- `crc::bit_out` meets its contract: the lowest bit is one or zero, and so is the polynomial's factor.
-use mathlib.Core.Path.{_≡_, refl, ap}
-use Prim.Native.Nat.{ℕ, _*_, _/_, _%_}
+use mathlib.Core.Path.{_≡_}
+use Prim.Native.Nat.{ℕ, _/_, _%_}
 use native.Mathlib.Omega.{arith}
 use lib.Bits.{bitXor}
 use Rattle.crc.specs.Crc.{bit}

@@ -3,7 +3,8 @@ use mathlib.Core.Path.{_≡_}
 use Prim.Native.Nat.{_-_, _≤_}
 use lib.ListN.{length, drop}
 use Rattle.crc.specs.Crc.{wordsIn}
-use Rattle.crc_long.specs.Turn.{turn-more, turn-done}
+use Rattle.crc_long.specs.Turn.{turn-more}
+use Rattle.crc.specs.Laws.{wordsIn-rest}
 use borrow.Author.Needs.{needs}
 use Rattle.crc_long.proofs.words_in.Statement.{statement}
 use Rattle.crc_long.proofs.words_in.Tie as tie
@@ -20,7 +21,7 @@ loop-again c =
     (search needs, turn-more _ _ _ (t .before .before .before .args .words .now) (t .before .loop .i) (t .loop-test .taken) (c .turn .ensures) (t .before .loop .inv .1))
 
 returns : tie.Need-returns Inv-loop μ-loop
-returns c = search (needs, turn-done)
+returns c = search (needs, wordsIn-rest)
 
 pub words-in-spec : {M : Type 1} → statement M
 words-in-spec =

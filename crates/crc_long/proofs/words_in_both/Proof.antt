@@ -3,7 +3,8 @@ use mathlib.Core.Path.{_≡_}
 use Prim.Native.Nat.{_-_, _≤_}
 use lib.ListN.{length, drop}
 use Rattle.crc.specs.Crc.{wordsIn}
-use Rattle.crc_long.specs.Turn.{turn-more, turn-done}
+use Rattle.crc_long.specs.Turn.{turn-more}
+use Rattle.crc.specs.Laws.{wordsIn-rest}
 use borrow.Author.Needs.{needs}
 use Rattle.crc_long.proofs.words_in_both.Statement.{statement}
 use Rattle.crc_long.proofs.words_in_both.Tie as tie
@@ -23,7 +24,7 @@ loop-again c =
     )
 
 returns : tie.Need-returns Inv-loop μ-loop
-returns c = search (needs, turn-done)
+returns c = search (needs, wordsIn-rest)
 
 pub words-in-both-spec : {M : Type 1} → statement M
 words-in-both-spec =

@@ -1,5 +1,5 @@
 -- `crc_vectors::made` is safe and ends: each word is below 2^32, and the array keeps its length.
-use Prim.Native.Nat.{_-_, _≤_, _<_, _^_}
+use Prim.Native.Nat.{_-_, _<_, _^_}
 use mathlib.Core.Path.{_≡_}
 use lib.ListN.{length}
 use borrow.Author.Needs.{needs}
