@@ -3,7 +3,7 @@ use mathlib.Core.Path.{_≡_, refl, sym, _∙_, ap, subst}
 use mathlib.Core.Logic.{_≢_}
 use mathlib.Core.Bool.{Bool, true, false, cond, not}
 use mathlib.Core.List.{List, [], _∷_, _++_}
-use Prim.Native.Nat.{ℕ, _+_, _*_, _/_, _<_, _≤_}
+use Prim.Native.Nat.{ℕ, _+_, _-_, _*_, _/_, _<_, _≤_}
 use native.Mathlib.Nat.{mul-comm, add-zero}
 use lib.Dec.{leb, eqb, lit<}
 use native.Mathlib.Omega.{arith}
@@ -21,7 +21,7 @@ use Rattle.image.specs.declared.tables.Table.{Table}
 use Rattle.image.specs.declared.tables.Table.the-variants.{AddressLookup}
 use Rattle.rules.specs.Rules.{ruled}
 use Rattle.stream.specs.Header.{idOf, lengthOf, wrong}
-use Rattle.stream.specs.Machine.{Machine, at, told, filling, cleared, refuse, hadIn, placeIn, finish, endedBy, begunBy, summed}
+use Rattle.stream.specs.Machine.{Machine, at, told, idle, filling, cleared, refuse, hadIn, placeIn, finish, endedBy, begunBy, summed, filled}
 use Rattle.stream.specs.declared.Load.{Load}
 use Rattle.loader.specs.Leaves.{Leaves, headerOf}
 use Rattle.loader.specs.declared.Header.{Header}
@@ -137,3 +137,27 @@ all-mosts = refl
 
 pub most-small : (t : Table) → mostOf (indexOf t) ≤ 4096
 most-small t = leb-true _ 4096 (every-at 9 (indexOf t) (λ k. leb (mostOf k) 4096) all-mosts (index-lt t))
+
+-- ---- a data word, and the data's checksum
+first-way : (due : ℕ) (v x y : Machine) → due ≡ 0 → v ≡ x → v ≡ cond (eqb due 0) x y
+first-way due v x y e p = p ∙ hit-eq due 0 x y e
+
+module _ (t : Table) (placed due s b w : ℕ) (buffer : List ℕ) where
+  pub filled-7 : (f : ℕ) → due ≡ 0 → f ≡ finished b → (w ≡ f → ⊥) → refuse buffer 7 ≡ filled t placed due s b buffer w
+  filled-7 f e q ne = first-way due _ _ _ e (hit-ne w (finished b) _ _ (λ p. ne (p ∙ sym q)))
+
+  pub filled-sum : (f i count s2 : ℕ) → due ≡ 0 → f ≡ finished b → w ≡ f → i ≡ indexOf t → count ≡ hadIn buffer (indexOf t) + placed / sizeOf (indexOf t) → s2 ≡ wordIn s w
+      → at (idle s2) (set buffer (entryWords + i) count) ≡ filled t placed due s b buffer w
+  filled-sum f i count s2 e q p ei ec es =
+      ap (λ (x : ℕ). at (idle x) (set buffer (entryWords + i) count)) es
+      ∙ ap (λ (x : ℕ). at (idle (wordIn s w)) (set buffer (entryWords + x) count)) ei
+      ∙ ap (λ (x : ℕ). at (idle (wordIn s w)) (set buffer (entryWords + indexOf t) x)) ec
+      ∙ first-way due _ _ _ e (pass-ne w (finished b) _ _ _ (p ∙ q) refl)
+
+  pub filled-word : (place s2 b2 : ℕ) → (due ≡ 0 → ⊥) → place ≡ placeIn buffer (indexOf t) placed → s2 ≡ wordIn s w → b2 ≡ wordIn b w
+      → at (filling t (placed + 1) (due - 1) s2 b2) (set buffer place w) ≡ filled t placed due s b buffer w
+  filled-word place s2 b2 ne ep es eb =
+      ap (λ (x : ℕ). at (filling t (placed + 1) (due - 1) x b2) (set buffer place w)) es
+      ∙ ap (λ (x : ℕ). at (filling t (placed + 1) (due - 1) (wordIn s w) x) (set buffer place w)) eb
+      ∙ ap (λ (x : ℕ). at (filling t (placed + 1) (due - 1) (wordIn s w) (wordIn b w)) (set buffer x w)) ep
+      ∙ pass-eq due 0 _ _ _ ne refl

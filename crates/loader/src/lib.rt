@@ -12,9 +12,11 @@ ghost use Rattle.image.specs.Layout.{imageWords, entryWords, imageIn};
 ghost use Rattle.image.specs.Sound.{Within};
 ghost use Rattle.image.specs.Tables.{kindOf, indexOf};
 ghost use Rattle.image.specs.Rows.{sizeOf, mostOf};
-ghost use Rattle.stream.specs.Machine.{at, fresh, idle, headed, sized, filling, told, cleared, refuse, hadIn, placeIn, finish, endedBy, begunBy, summed};
+ghost use Rattle.stream.specs.Machine.{at, fresh, idle, headed, sized, filling, told, cleared, refuse, hadIn, placeIn, finish, endedBy, begunBy, summed, filled};
 ghost use Rattle.crc.specs.Crc.{checksum};
 ghost use Rattle.stream.specs.Header.{idOf};
+ghost use Rattle.stream.specs.Fine.{Roomy};
+ghost use Rattle.stream.specs.declared.Phase.the-variants.{Data};
 ghost use Rattle.loader.specs.Leaves.{Leaves, headerOf};
 
 // What a block's header comes to: the number 3 to 6 that it is refused with, or its table.
@@ -218,4 +220,31 @@ fn raised(image: &[u32], table: Table, placed: usize) -> u32
     let size = image::tables::size_of(table);
     let had = image::counts::count(image, image::tables::index_of(table));
     (had + placed / size) as u32
+}
+
+// A block's data word, or their checksum where none is due.
+fn filled(image: &mut [u32], load: Load, w: u32) -> Load
+    requires { ⌜ (imageWords ≤ length (now image)) × Within (imageIn (now image)) × Roomy Data load (now image) ⌝ }
+    ensures { λ r. ⌜ Leaves (filled (load .table) (load .placed) (load .due) (load .stream) (load .block) (now (image .entry)) w) r (now (image .exit)) ⌝ }
+{
+    let table = load.table;
+    let placed = load.placed;
+    let due = load.due;
+    if due == 0 {
+        if w != crc::finish(load.block) {
+            return refuse(image, 7);
+        }
+        let count = raised(image, table, placed);
+        image[11430 + image::tables::index_of(table)] = count;
+        return idle(crc::word_in(load.stream, w));
+    }
+    let place = place_of(image, table, placed, due);
+    image[place] = w;
+    filling(
+        table,
+        placed + 1,
+        due - 1,
+        crc::word_in(load.stream, w),
+        crc::word_in(load.block, w),
+    )
 }
