@@ -4,11 +4,11 @@ use mathlib.Core.Logic.{_≢_}
 use mathlib.Core.Bool.{Bool, true, false, cond, not}
 use mathlib.Core.List.{List, [], _∷_, _++_}
 use Prim.Native.Nat.{ℕ, _+_, _-_, _*_, _/_, _<_, _≤_}
-use native.Mathlib.Nat.{mul-comm, add-zero}
+use native.Mathlib.Nat.{mul-comm, add-zero, not-suc-le-zero}
 use lib.Dec.{leb, eqb, lit<}
 use native.Mathlib.Omega.{arith}
 use lib.ListN.{length, getD, set, drop, replicate, length-set}
-use lib.Seq.{drop-set-lt}
+use lib.Seq.{sets, drop-set-lt}
 use borrow.Author.Tests.{leb-true, eq-eqb, ne-eqb}
 use Rattle.laws.specs.Scan.{every, every-at}
 use Rattle.laws.specs.Chain.{hit, pass, hit-eq, pass-eq, hit-ne, pass-ne}
@@ -21,12 +21,14 @@ use Rattle.image.specs.declared.tables.Table.{Table}
 use Rattle.image.specs.declared.tables.Table.the-variants.{AddressLookup}
 use Rattle.rules.specs.Rules.{ruled}
 use Rattle.stream.specs.Header.{idOf, lengthOf, wrong}
-use Rattle.stream.specs.Machine.{Machine, at, told, idle, filling, cleared, refuse, hadIn, placeIn, finish, endedBy, begunBy, summed, filled}
+use Rattle.stream.specs.Machine.{Machine, at, told, idle, filling, cleared, refuse, hadIn, placeIn, finish, endedBy, begunBy, summed, filled, stepIn, step, run}
+use Rattle.stream.specs.declared.Phase.{Phase}
+use Rattle.stream.specs.declared.Phase.the-variants.{Data}
 use Rattle.stream.specs.declared.Load.{Load}
 use Rattle.loader.specs.Leaves.{Leaves, headerOf}
 use Rattle.loader.specs.declared.Header.{Header}
 use Rattle.loader.specs.declared.Header.the-variants.{Wrong, Right}
-use Rattle.stream.specs.Runs.{index-lt}
+use Rattle.stream.specs.Runs.{index-lt, run-data}
 use Rattle.stream.specs.Bridge.{size-positive, room-inside}
 use Rattle.stream.specs.Fine.{Fine, store-fine, mark-kept, raised}
 
@@ -161,3 +163,34 @@ module _ (t : Table) (placed due s b w : ℕ) (buffer : List ℕ) where
       ∙ ap (λ (x : ℕ). at (filling t (placed + 1) (due - 1) (wordIn s w) x) (set buffer place w)) eb
       ∙ ap (λ (x : ℕ). at (filling t (placed + 1) (due - 1) (wordIn s w) (wordIn b w)) (set buffer x w)) ep
       ∙ pass-eq due 0 _ _ _ ne refl
+
+-- ---- one word, by the phase
+pub at-phase : (l : Load) (buffer : List ℕ) (w : ℕ) (p : Phase) → l .phase ≡ p → stepIn p l buffer w ≡ step (at l buffer) w
+unfolding step
+at-phase l buffer w p e = ap (λ (x : Phase). stepIn x l buffer w) (sym e)
+
+-- a run of data words from any load that is inside a block
+pub run-filling : (l : Load) (buffer ds : List ℕ) → l .phase ≡ Data → 0 < length ds
+    → run (at l buffer) ds ≡ run (at (filling (l .table) (l .placed) (l .due) (l .stream) (l .block)) buffer) ds
+unfolding run step
+run-filling l buffer [] e h = absurd (not-suc-le-zero h)
+run-filling l buffer (d ∷ ds) e h = ap (λ (x : Phase). run (stepIn x l buffer d) ds) e
+
+-- what was stored and summed is the machine's run
+pub data-run : (l : Load) (buffer ds stored : List ℕ) (place s b : ℕ) → l .phase ≡ Data → 0 < length ds → length ds ≤ l .due
+    → place + length ds ≤ entryWords
+    → place ≡ placeIn buffer (indexOf (l .table)) (l .placed)
+    → stored ≡ sets buffer place ds
+    → s ≡ wordsIn (l .stream) ds
+    → b ≡ wordsIn (l .block) ds
+    → at (filling (l .table) (l .placed + length ds) (l .due - length ds) s b) stored ≡ run (at l buffer) ds
+data-run l buffer ds stored place s b e some fits inside ep est es eb =
+    ap (λ (x : List ℕ). at (filling (l .table) (l .placed + length ds) (l .due - length ds) s b) x) (est ∙ ap (λ (x : ℕ). sets buffer x ds) ep)
+    ∙ ap (λ (x : ℕ). at (filling (l .table) (l .placed + length ds) (l .due - length ds) x b) (sets buffer p ds)) es
+    ∙ ap (λ (x : ℕ). at (filling (l .table) (l .placed + length ds) (l .due - length ds) (wordsIn (l .stream) ds) x) (sets buffer p ds)) eb
+    ∙ sym
+    (run-filling l buffer ds e some
+    ∙ run-data (l .table) (l .placed) (l .due) (l .stream) (l .block) buffer ds fits (subst (λ (x : ℕ). x + length ds ≤ entryWords) ep inside))
+  where
+    p : ℕ
+    p = placeIn buffer (indexOf (l .table)) (l .placed)

@@ -8,14 +8,15 @@ ghost use mathlib.Core.Path.{_≡_};
 ghost use mathlib.Core.List.{[], _∷_};
 ghost use Prim.Native.Nat.{_+_, _-_, _*_, _/_, _<_, _≤_};
 ghost use lib.ListN.{length};
+ghost use lib.Seq.{sets};
 ghost use Rattle.image.specs.Layout.{imageWords, entryWords, imageIn};
 ghost use Rattle.image.specs.Sound.{Within};
 ghost use Rattle.image.specs.Tables.{kindOf, indexOf};
 ghost use Rattle.image.specs.Rows.{sizeOf, mostOf};
-ghost use Rattle.stream.specs.Machine.{at, fresh, idle, headed, sized, filling, told, cleared, refuse, hadIn, placeIn, finish, endedBy, begunBy, summed, filled};
+ghost use Rattle.stream.specs.Machine.{at, fresh, idle, headed, sized, filling, told, cleared, refuse, hadIn, placeIn, finish, endedBy, begunBy, summed, filled, startedBy, step, run};
 ghost use Rattle.crc.specs.Crc.{checksum};
 ghost use Rattle.stream.specs.Header.{idOf};
-ghost use Rattle.stream.specs.Fine.{Roomy};
+ghost use Rattle.stream.specs.Fine.{Roomy, Fine};
 ghost use Rattle.stream.specs.declared.Phase.the-variants.{Data};
 ghost use Rattle.loader.specs.Leaves.{Leaves, headerOf};
 
@@ -246,5 +247,101 @@ fn filled(image: &mut [u32], load: Load, w: u32) -> Load
         due - 1,
         crc::word_in(load.stream, w),
         crc::word_in(load.block, w),
+    )
+}
+
+// Word 0.
+fn device(image: &mut [u32], w: u32) -> Load
+    requires { ⌜ imageWords ≤ length (now image) ⌝ }
+    ensures { λ r. ⌜ Leaves (startedBy (now (image .entry)) w) r (now (image .exit)) ⌝ }
+{
+    if w != 0x9E00_030E {
+        return refuse(image, 1);
+    }
+    idle(crc::word_in(crc::START, w))
+}
+
+fn headed(stream: u32, first: u32) -> Load
+    ensures { λ r. ⌜ r ≡ headed stream first ⌝ }
+{
+    Load {
+        phase: Phase::Length,
+        table: Table::AddressLookup,
+        placed: 0,
+        due: 0,
+        first,
+        second: 0,
+        stream,
+        block: 0,
+    }
+}
+
+fn sized(stream: u32, first: u32, second: u32) -> Load
+    ensures { λ r. ⌜ r ≡ sized stream first second ⌝ }
+{
+    Load {
+        phase: Phase::Sum,
+        table: Table::AddressLookup,
+        placed: 0,
+        due: 0,
+        first,
+        second,
+        stream,
+        block: 0,
+    }
+}
+
+// One word.
+fn step(image: &mut [u32], load: Load, w: u32) -> Load
+    requires { ⌜ Fine (at load (now image)) ⌝ }
+    ensures { λ r. ⌜ Leaves (step (at load (now (image .entry))) w) r (now (image .exit)) ⌝ }
+{
+    let phase = load.phase;
+    match phase {
+        Phase::Device => device(image, w),
+        Phase::Id => headed(crc::word_in(load.stream, w), w),
+        Phase::Length => sized(crc::word_in(load.stream, w), load.first, w),
+        Phase::Sum => summed(image, load.stream, load.first, load.second, w),
+        Phase::Data => filled(image, load, w),
+        Phase::Told(_) => load,
+    }
+}
+
+// Words into the image, one behind the other.
+fn copy(image: &mut [u32], place: usize, words: &[u32])
+    requires { ⌜ place + length (now words) ≤ length (now image) ⌝ }
+    ensures { λ r. ⌜ now (image .exit) ≡ sets (now (image .entry)) place (now (words .entry)) ⌝ }
+{
+    let mut i: usize = 0;
+    while i < words.len() {
+        image[place + i] = words[i];
+        i += 1;
+    }
+}
+
+// A run of data words, no more than are due.
+fn data_run(image: &mut [u32], load: Load, words: &[u32]) -> Load
+    requires { ⌜ (imageWords ≤ length (now image)) × Roomy Data load (now image) ⌝ }
+    requires { ⌜ (0 < length (now words)) × (length (now words) ≤ load .due) × (load .phase ≡ Data) ⌝ }
+    ensures { λ r. ⌜ Leaves (run (at load (now (image .entry))) (now (words .entry))) r (now (image .exit)) ⌝ }
+{
+    let table = load.table;
+    let placed = load.placed;
+    let due = load.due;
+    let place = place_of(image, table, placed, due);
+    copy(image, place, words);
+    let both = crc::words_in_both(
+        crc::Both {
+            block: load.block,
+            stream: load.stream,
+        },
+        words,
+    );
+    filling(
+        table,
+        placed + words.len(),
+        due - words.len(),
+        both.stream,
+        both.block,
     )
 }

@@ -102,8 +102,12 @@ filled t placed due s b buffer w =
     (at (idle (wordIn s w)) (set buffer (countAt (indexOf t)) (hadIn buffer (indexOf t) + placed / sizeOf (indexOf t)))))
     (at (filling t (placed + 1) (due - 1) (wordIn s w) (wordIn b w)) (set buffer (placeIn buffer (indexOf t) placed) w))
 
+-- word 0
+abbrev pub startedBy : List ℕ → ℕ → Machine
+startedBy buffer w = cond (not (eqb w device)) (refuse buffer 1) (at (idle (wordIn start w)) buffer)
+
 abbrev pub stepIn : Phase → Load → List ℕ → ℕ → Machine
-stepIn Device l buffer w = cond (not (eqb w device)) (refuse buffer 1) (at (idle (wordIn start w)) buffer)
+stepIn Device l buffer w = startedBy buffer w
 stepIn Id l buffer w = at (headed (wordIn (l .stream) w) w) buffer
 stepIn Length l buffer w = at (sized (wordIn (l .stream) w) (l .first) w) buffer
 stepIn Sum l buffer w = summed (l .stream) (l .first) (l .second) buffer w
