@@ -4,12 +4,12 @@ use mathlib.Core.Logic.{_≢_}
 use mathlib.Core.Bool.{Bool, true, false, cond, not}
 use mathlib.Core.List.{List, [], _∷_, _++_}
 use Prim.Native.Nat.{ℕ, _+_, _-_, _*_, _/_, _<_, _≤_}
-use native.Mathlib.Nat.{mul-comm, add-zero, not-suc-le-zero}
+use native.Mathlib.Nat.{mul-comm, mul-le-mul-right, add-zero, not-suc-le-zero, le-of-eq}
 use lib.Dec.{leb, eqb, lit<}
 use native.Mathlib.Omega.{arith}
-use lib.ListN.{length, getD, set, drop, replicate, length-set}
-use lib.Seq.{sets, drop-set-lt}
-use borrow.Author.Tests.{leb-true, eq-eqb, ne-eqb}
+use lib.ListN.{length, getD, set, take, drop, replicate, length-set, length-drop, take-append-drop}
+use lib.Seq.{sets, drop-set-lt, take-all, drop-drop}
+use borrow.Author.Tests.{leb-true, lt-ltb, le-ltb, eq-eqb, ne-eqb}
 use Rattle.laws.specs.Scan.{every, every-at}
 use Rattle.laws.specs.Chain.{hit, pass, hit-eq, pass-eq, hit-ne, pass-ne}
 use Rattle.crc.specs.Crc.{wordIn, wordsIn, start, finished, checksum}
@@ -21,14 +21,14 @@ use Rattle.image.specs.declared.tables.Table.{Table}
 use Rattle.image.specs.declared.tables.Table.the-variants.{AddressLookup}
 use Rattle.rules.specs.Rules.{ruled}
 use Rattle.stream.specs.Header.{idOf, lengthOf, wrong}
-use Rattle.stream.specs.Machine.{Machine, at, told, idle, filling, cleared, refuse, hadIn, placeIn, finish, endedBy, begunBy, summed, filled, stepIn, step, run}
+use Rattle.stream.specs.Machine.{Machine, at, told, idle, filling, cleared, refuse, hadIn, placeIn, finish, endedBy, begunBy, summed, filled, stepIn, step, run, beyond}
 use Rattle.stream.specs.declared.Phase.{Phase}
 use Rattle.stream.specs.declared.Phase.the-variants.{Data}
 use Rattle.stream.specs.declared.Load.{Load}
 use Rattle.loader.specs.Leaves.{Leaves, headerOf}
 use Rattle.loader.specs.declared.Header.{Header}
 use Rattle.loader.specs.declared.Header.the-variants.{Wrong, Right}
-use Rattle.stream.specs.Runs.{index-lt, run-data}
+use Rattle.stream.specs.Runs.{index-lt, run-data, run-append}
 use Rattle.stream.specs.Bridge.{size-positive, room-inside}
 use Rattle.stream.specs.Fine.{Fine, store-fine, mark-kept, raised}
 
@@ -194,3 +194,50 @@ data-run l buffer ds stored place s b e some fits inside ep est es eb =
   where
     p : ℕ
     p = placeIn buffer (indexOf (l .table)) (l .placed)
+
+-- one word is a run of one
+pub one-word : (m : Machine) (words : List ℕ) → 0 < length words → step m (getD words 0 0) ≡ run m (take 1 words)
+unfolding run
+one-word m [] h = absurd (not-suc-le-zero h)
+one-word m (w ∷ words) h = refl
+
+-- ---- runs in parts
+pub leaves-at : {m : Machine} {r : Load} {b : List ℕ} → Leaves m r b → at r b ≡ m
+leaves-at {m} {r} {b} l = ap (λ (x : Load). at x b) (l .state) ∙ ap (λ (x : List ℕ). at (m .load) x) (l .kept)
+
+pub at-leaves : {m : Machine} {r : Load} {b : List ℕ} → at r b ≡ m → Leaves m r b
+at-leaves e = record { state = ap (λ (x : Machine). x .load) e; kept = ap (λ (x : Machine). x .buffer) e }
+
+-- what a part from i to the end holds
+pub part-is : (ws : List ℕ) (i : ℕ) → take (length ws - i) (drop i ws) ≡ drop i ws
+part-is ws i = take-all (length ws - i) (drop i ws) (le-of-eq (length-drop i ws))
+
+-- the run goes on behind the words that were taken
+pub goes-on : (m n : Machine) (ws : List ℕ) (i count : ℕ) → n ≡ run m (take count (take (length ws - i) (drop i ws))) → run n (drop (i + count) ws) ≡ run m (drop i ws)
+goes-on m n ws i count e =
+    ap (λ (x : Machine). run x (drop (i + count) ws)) (e ∙ ap (λ (l : List ℕ). run m (take count l)) (part-is ws i))
+    ∙ ap (λ (l : List ℕ). run (run m (take count (drop i ws))) l) (sym (drop-drop count i ws))
+    ∙ sym (run-append m (take count (drop i ws)) (drop count (drop i ws)))
+    ∙ ap (λ (l : List ℕ). run m l) (take-append-drop count (drop i ws))
+
+-- ---- 30's sum, tested by a difference
+module _ (t : Table) (buffer : List ℕ) (s i had m : ℕ) (size : s ≡ sizeOf (indexOf t)) (index : i ≡ indexOf t) (count : had ≡ hadIn buffer i)
+    (most : m ≡ mostOf (indexOf t)) (within : Within (imageIn buffer)) where
+  pub room-is : m * s ≡ mostOf (indexOf t) * sizeOf (indexOf t)
+  room-is = ap (λ (x : ℕ). x * s) most ∙ ap (λ (x : ℕ). mostOf (indexOf t) * x) size
+
+  pub room-small : m * s ≤ entryWords
+  room-small = omega (arith, room-is, room-inside (indexOf t) (index-lt t), mul-comm (mostOf (indexOf t)) (sizeOf (indexOf t)))
+
+  pub had-fits : had * s ≤ m * s
+  had-fits =
+      subst (λ (x : ℕ). x ≤ m * s) (sym (words-had t buffer s i had size index count))
+      (subst (λ (x : ℕ). hadIn buffer (indexOf t) * sizeOf (indexOf t) ≤ x) (sym room-is) (mul-le-mul-right (sizeOf (indexOf t)) (within (indexOf t) (index-lt t))))
+
+  pub beyond-holds : (placed due : ℕ) → m * s < had * s + placed + due → true ≡ beyond (imageIn buffer) (indexOf t) placed due
+  beyond-holds placed due h = sym (lt-ltb _ _ (subst (λ (x : ℕ). x < hadIn buffer (indexOf t) * sizeOf (indexOf t) + placed + due) room-is
+      (subst (λ (x : ℕ). m * s < x + placed + due) (words-had t buffer s i had size index count) h)))
+
+  pub beyond-fails : (placed due : ℕ) → had * s + placed + due ≤ m * s → false ≡ beyond (imageIn buffer) (indexOf t) placed due
+  beyond-fails placed due h = sym (le-ltb _ _ (subst (λ (x : ℕ). hadIn buffer (indexOf t) * sizeOf (indexOf t) + placed + due ≤ x) room-is
+      (subst (λ (x : ℕ). x + placed + due ≤ m * s) (words-had t buffer s i had size index count) h)))

@@ -2,15 +2,15 @@
 use mathlib.Core.Path.{_≡_}
 use mathlib.Core.Bool.{cond}
 use mathlib.Core.List.{List}
-use Prim.Native.Nat.{ℕ}
+use Prim.Native.Nat.{ℕ, _<_, _≤_}
 use lib.Dec.{eqb}
-use lib.ListN.{getD}
+use lib.ListN.{length, getD, take}
 use Rattle.image.specs.Tables.{tables}
 use Rattle.image.specs.declared.tables.Table.the-variants.{AddressLookup}
 use Rattle.stream.specs.Header.{wrong}
-use Rattle.stream.specs.Machine.{Machine, Written}
-use Rattle.stream.specs.Paper.{Whole}
+use Rattle.stream.specs.Machine.{Machine, at, run}
 use Rattle.stream.specs.declared.Load.{Load}
+use Rattle.loader.specs.declared.Took.{Took}
 use Rattle.loader.specs.declared.Header.{Header}
 use Rattle.loader.specs.declared.Header.the-variants.{Wrong, Right}
 
@@ -22,3 +22,9 @@ pub record Leaves (m : Machine) (load : Load) (buffer : List ℕ) : Type 0 where
 -- a block's header: its refusal, or its table
 abbrev pub headerOf : ℕ → ℕ → ℕ → Header
 headerOf kind n had = cond (eqb (wrong kind n had) 0) (Right (getD tables kind AddressLookup)) (Wrong (wrong kind n had))
+
+-- some words were taken, one at least, and what is left is the machine's run over them
+pub record Takes (load : Load) (buffer words : List ℕ) (r : Took) (after : List ℕ) : Type 0 where
+  pub some : 0 < r .count
+  pub fits : r .count ≤ length words
+  pub leaves : Leaves (run (at load buffer) (take (r .count) words)) (r .load) after

@@ -13,12 +13,13 @@ ghost use Rattle.image.specs.Layout.{imageWords, entryWords, imageIn};
 ghost use Rattle.image.specs.Sound.{Within};
 ghost use Rattle.image.specs.Tables.{kindOf, indexOf};
 ghost use Rattle.image.specs.Rows.{sizeOf, mostOf};
-ghost use Rattle.stream.specs.Machine.{at, fresh, idle, headed, sized, filling, told, cleared, refuse, hadIn, placeIn, finish, endedBy, begunBy, summed, filled, startedBy, step, run};
+ghost use Rattle.stream.specs.Machine.{at, fresh, idle, headed, sized, filling, told, cleared, refuse, hadIn, placeIn, finish, endedBy, begunBy, summed, filled, startedBy, step, run, answerOf, begun, beyond, overdueIn};
+ghost use Rattle.stream.specs.Paper.{numbered};
 ghost use Rattle.crc.specs.Crc.{checksum};
 ghost use Rattle.stream.specs.Header.{idOf};
 ghost use Rattle.stream.specs.Fine.{Roomy, Fine};
 ghost use Rattle.stream.specs.declared.Phase.the-variants.{Data};
-ghost use Rattle.loader.specs.Leaves.{Leaves, headerOf};
+ghost use Rattle.loader.specs.Leaves.{Leaves, headerOf, Takes};
 
 // What a block's header comes to: the number 3 to 6 that it is refused with, or its table.
 pub enum Header {
@@ -344,4 +345,128 @@ fn data_run(image: &mut [u32], load: Load, words: &[u32]) -> Load
         both.stream,
         both.block,
     )
+}
+
+// A load state after `count` words.
+struct Took {
+    load: Load,
+    count: usize,
+}
+
+fn least(a: usize, b: usize) -> usize
+    ensures { λ r. ⌜ (r ≤ a) × (r ≤ b) × (0 < a → 0 < b → 0 < r) ⌝ }
+{
+    if a < b { a } else { b }
+}
+
+// Some words at once: inside a block those that are due, else one.
+fn some(image: &mut [u32], load: Load, words: &[u32]) -> Took
+    requires { ⌜ Fine (at load (now image)) × (0 < length (now words)) ⌝ }
+    ensures { λ r. ⌜ Takes load (now (image .entry)) (now (words .entry)) r (now (image .exit)) ⌝ }
+{
+    let phase = load.phase;
+    let due = load.due;
+    if let Phase::Data = phase {
+        if 0 < due {
+            let count = least(due, words.len());
+            let next = data_run(image, load, &words[..count]);
+            return Took { load: next, count };
+        }
+    }
+    let next = step(image, load, words[0]);
+    Took {
+        load: next,
+        count: 1,
+    }
+}
+
+// Words, one after the other.
+fn run(image: &mut [u32], load: Load, words: &[u32]) -> Load
+    requires { ⌜ Fine (at load (now image)) ⌝ }
+    ensures { λ r. ⌜ Leaves (run (at load (now (image .entry))) (now (words .entry))) r (now (image .exit)) ⌝ }
+{
+    let mut state = load;
+    let mut i: usize = 0;
+    while i < words.len() {
+        let took = some(image, state, &words[i..]);
+        state = took.load;
+        i += took.count;
+    }
+    state
+}
+
+// The answer and the load state that a write leaves.
+pub struct Wrote {
+    pub answer: Answer,
+    pub load: Load,
+}
+
+// An answer by its number.
+fn numbered(n: u32) -> Answer
+    ensures { λ r. ⌜ r ≡ numbered n ⌝ }
+{
+    if n == 0 {
+        Answer::Loaded
+    } else {
+        Answer::Refused(n)
+    }
+}
+
+fn answer_of(phase: Phase) -> Answer
+    ensures { λ r. ⌜ r ≡ answerOf phase ⌝ }
+{
+    match phase {
+        Phase::Device => Answer::More,
+        Phase::Id => Answer::More,
+        Phase::Length => Answer::More,
+        Phase::Sum => Answer::More,
+        Phase::Data => Answer::More,
+        Phase::Told(n) => numbered(n),
+    }
+}
+
+fn is_begun(phase: Phase) -> bool
+    ensures { λ r. ⌜ r ≡ begun phase ⌝ }
+{
+    match phase {
+        Phase::Device => false,
+        Phase::Id => true,
+        Phase::Length => true,
+        Phase::Sum => true,
+        Phase::Data => true,
+        Phase::Told(_) => true,
+    }
+}
+
+// More words are due than a table has room for. The sum is tested without ever being out of a number's range.
+fn beyond(image: &[u32], table: Table, placed: usize, due: usize) -> bool
+    requires { ⌜ (imageWords ≤ length (now image)) × Within (imageIn (now image)) ⌝ }
+    ensures { λ r. ⌜ r ≡ beyond (imageIn (now (image .entry))) (indexOf table) placed due ⌝ }
+{
+    let size = image::tables::size_of(table);
+    let had = image::counts::count(image, image::tables::index_of(table));
+    let room = image::tables::most_of(table) * size - had * size;
+    if room < placed {
+        return true;
+    }
+    if room - placed < due {
+        return true;
+    }
+    false
+}
+
+fn overdue(image: &[u32], load: Load) -> bool
+    requires { ⌜ (imageWords ≤ length (now image)) × Within (imageIn (now image)) ⌝ }
+    ensures { λ r. ⌜ r ≡ overdueIn (load .phase) load (imageIn (now (image .entry))) ⌝ }
+{
+    let phase = load.phase;
+    let table = load.table;
+    match phase {
+        Phase::Device => false,
+        Phase::Id => false,
+        Phase::Length => false,
+        Phase::Sum => false,
+        Phase::Data => beyond(image, table, load.placed, load.due),
+        Phase::Told(_) => false,
+    }
 }

@@ -143,14 +143,15 @@ begun Data = true
 begun (Told n) = true
 
 -- "more words due than the block's table has room for"
+abbrev pub beyond : List ℕ → ℕ → ℕ → ℕ → Bool
+beyond image k placed due = ltb (mostOf k * sizeOf k) (countOf image k * sizeOf k + placed + due)
+
 abbrev pub overdueIn : Phase → Load → List ℕ → Bool
 overdueIn Device l image = false
 overdueIn Id l image = false
 overdueIn Length l image = false
 overdueIn Sum l image = false
-overdueIn Data l image =
-    ltb (mostOf (indexOf (l .table)) * sizeOf (indexOf (l .table)))
-    (countOf image (indexOf (l .table)) * sizeOf (indexOf (l .table)) + l .placed + l .due)
+overdueIn Data l image = beyond image (indexOf (l .table)) (l .placed) (l .due)
 overdueIn (Told n) l image = false
 
 -- 30 for "a write to a load already begun": "the image or load state holds a table count above its limit, or more words due than ..."
