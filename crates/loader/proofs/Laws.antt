@@ -1,7 +1,7 @@
 -- What each way through a step leaves, as the machine says it.
 use mathlib.Core.Path.{_≡_, refl, sym, _∙_, ap, subst}
 use mathlib.Core.Logic.{_≢_}
-use mathlib.Core.Bool.{Bool, true, false, cond, not}
+use mathlib.Core.Bool.{Bool, true, false, cond, not, true≢false}
 use mathlib.Core.List.{List, [], _∷_, _++_}
 use Prim.Native.Nat.{ℕ, _+_, _-_, _*_, _/_, _<_, _≤_}
 use native.Mathlib.Nat.{mul-comm, mul-le-mul-right, add-zero, not-suc-le-zero, le-of-eq}
@@ -9,28 +9,33 @@ use lib.Dec.{leb, eqb, lit<}
 use native.Mathlib.Omega.{arith}
 use lib.ListN.{length, getD, set, take, drop, replicate, length-set, length-drop, take-append-drop}
 use lib.Seq.{sets, drop-set-lt, take-all, drop-drop}
-use borrow.Author.Tests.{leb-true, lt-ltb, le-ltb, eq-eqb, ne-eqb}
+use borrow.Author.Tests.{ltb-false, leb-true, lt-ltb, le-ltb, eq-eqb, ne-eqb}
 use Rattle.laws.specs.Scan.{every, every-at}
 use Rattle.laws.specs.Chain.{hit, pass, hit-eq, pass-eq, hit-ne, pass-ne}
 use Rattle.crc.specs.Crc.{wordIn, wordsIn, start, finished, checksum}
 use Rattle.image.specs.Rows.{sizeOf, mostOf, baseOf}
 use Rattle.image.specs.Layout.{imageWords, entryWords, imageIn, markAt}
+use Rattle.image.specs.Loaded.{tooShort}
 use Rattle.image.specs.Sound.{Within, Bounded, bounded}
 use Rattle.image.specs.Tables.{indexOf, kindOf, tables}
 use Rattle.image.specs.declared.tables.Table.{Table}
 use Rattle.image.specs.declared.tables.Table.the-variants.{AddressLookup}
 use Rattle.rules.specs.Rules.{ruled}
 use Rattle.stream.specs.Header.{idOf, lengthOf, wrong}
-use Rattle.stream.specs.Machine.{Machine, at, told, idle, filling, cleared, refuse, hadIn, placeIn, finish, endedBy, begunBy, summed, filled, stepIn, step, run, beyond}
+use Rattle.stream.specs.Machine.{Machine, at, told, idle, filling, cleared, refuse, hadIn, placeIn, finish, endedBy, begunBy, summed, filled, stepIn, step, run, beyond, fresh, begun, damaged, outside, untouched, opened, Written, written, wrote}
+use Rattle.stream.specs.Paper.{Whole, asFound, loadedWords}
+use Rattle.stream.specs.Ends.{settledIn, settled, whole}
 use Rattle.stream.specs.declared.Phase.{Phase}
-use Rattle.stream.specs.declared.Phase.the-variants.{Data}
+use Rattle.stream.specs.declared.Phase.the-variants.{Device, Id, Length, Sum, Data, Told}
+use Rattle.stream.specs.declared.Answer.{Answer}
 use Rattle.stream.specs.declared.Load.{Load}
-use Rattle.loader.specs.Leaves.{Leaves, headerOf}
+use Rattle.loader.specs.Leaves.{Leaves, headerOf, Writes, Ends}
+use Rattle.loader.specs.declared.Wrote.{Wrote}
 use Rattle.loader.specs.declared.Header.{Header}
 use Rattle.loader.specs.declared.Header.the-variants.{Wrong, Right}
 use Rattle.stream.specs.Runs.{index-lt, run-data, run-append}
 use Rattle.stream.specs.Bridge.{size-positive, room-inside}
-use Rattle.stream.specs.Fine.{Fine, store-fine, mark-kept, raised}
+use Rattle.stream.specs.Fine.{Fine, Roomy, store-fine, mark-kept, raised}
 
 -- what is left is also an equal machine's
 pub so : {m n : Machine} {r : Load} {b : List ℕ} → m ≡ n → Leaves m r b → Leaves n r b
@@ -241,3 +246,70 @@ module _ (t : Table) (buffer : List ℕ) (s i had m : ℕ) (size : s ≡ sizeOf 
   pub beyond-fails : (placed due : ℕ) → had * s + placed + due ≤ m * s → false ≡ beyond (imageIn buffer) (indexOf t) placed due
   beyond-fails placed due h = sym (le-ltb _ _ (subst (λ (x : ℕ). hadIn buffer (indexOf t) * sizeOf (indexOf t) + placed + due ≤ x) room-is
       (subst (λ (x : ℕ). x + placed + due ≤ m * s) (words-had t buffer s i had size index count) h)))
+
+-- ---- a whole load
+pub settles : (l : Load) (buffer : List ℕ) (p : Phase) (r : Answer) (after : List ℕ) → l .phase ≡ p → Ends (settledIn p buffer) r after → Ends (settled (at l buffer)) r after
+settles l buffer p r after e h = subst (λ (x : Phase). Ends (settledIn x buffer) r after) (sym e) h
+
+-- a write that its three tests let by
+pub wrote-as : (l : Load) (buffer ws after : List ℕ) (r : Wrote) (v : Written) → v ≡ wrote l buffer ws → r .answer ≡ v .answer → r .load ≡ v .load → after ≡ v .buffer
+    → Writes l buffer ws r after
+wrote-as l buffer ws after r v e a s b =
+    record {
+      answer = a ∙ ap (λ (x : Written). x .answer) e;
+      state = s ∙ ap (λ (x : Written). x .load) e;
+      kept = b ∙ ap (λ (x : Written). x .buffer) e;
+    }
+
+module _ (l : Load) (buffer ws : List ℕ) (short bad out : Bool) (es : short ≡ tooShort buffer) (ed : bad ≡ damaged l (imageIn buffer)) (eo : out ≡ outside (length ws)) where
+  pub wrote-31 : short ≡ true → untouched 31 l buffer ≡ wrote l buffer ws
+  unfolding wrote
+  wrote-31 h = hit short _ _ _ es h
+
+  pub wrote-30 : short ≡ false → bad ≡ true → untouched 30 l buffer ≡ wrote l buffer ws
+  unfolding wrote
+  wrote-30 h d = pass short _ _ _ _ es h (hit bad _ _ _ ed d)
+
+  pub wrote-32 : short ≡ false → bad ≡ false → out ≡ true → untouched 32 l buffer ≡ wrote l buffer ws
+  unfolding wrote
+  wrote-32 h d o = pass short _ _ _ _ es h (pass bad _ _ _ _ ed d (hit out _ _ _ eo o))
+
+  pub wrote-run : short ≡ false → bad ≡ false → out ≡ false → written (run (opened l buffer) ws) ≡ wrote l buffer ws
+  unfolding wrote
+  wrote-run h d o = pass short _ _ _ _ es h (pass bad _ _ _ _ ed d (pass out _ _ _ _ eo o refl))
+
+-- 31's test failed: the buffer has room
+pub has-room : (buffer : List ℕ) (short : Bool) → short ≡ tooShort buffer → short ≡ false → imageWords ≤ length buffer
+has-room buffer short e h = ltb-false (length buffer) imageWords (sym e ∙ h)
+
+-- a begun load runs on its own buffer, a fresh one on the cleared
+pub opened-begun : (l : Load) (buffer : List ℕ) (b : Bool) → b ≡ begun (l .phase) → b ≡ true → at l buffer ≡ opened l buffer
+opened-begun l buffer b e h = ap (λ (x : List ℕ). at l x) (hit b _ _ _ e h)
+
+pub opened-fresh : (l : Load) (buffer : List ℕ) (b : Bool) → b ≡ begun (l .phase) → b ≡ false → at l (cleared buffer) ≡ opened l buffer
+opened-fresh l buffer b e h = ap (λ (x : List ℕ). at l x) (pass b _ _ _ _ e h refl)
+
+-- a load that has not begun has nothing due
+pub unbegun-roomy : (l : Load) (buffer : List ℕ) (p : Phase) → l .phase ≡ p → begun p ≡ false → Roomy p l buffer
+unbegun-roomy l buffer Device e h = tt
+unbegun-roomy l buffer Id e h = absurd (true≢false h)
+unbegun-roomy l buffer Length e h = absurd (true≢false h)
+unbegun-roomy l buffer Sum e h = absurd (true≢false h)
+unbegun-roomy l buffer Data e h = absurd (true≢false h)
+unbegun-roomy l buffer (Told n) e h = absurd (true≢false h)
+
+-- 31 for a whole load
+pub words-31 : (buffer ws : List ℕ) (short : Bool) → short ≡ tooShort buffer → short ≡ true → asFound 31 buffer ≡ loadedWords buffer ws
+unfolding loadedWords
+words-31 buffer ws short e h = hit short _ _ _ e h
+
+pub words-on : (buffer ws : List ℕ) (short : Bool) → short ≡ tooShort buffer → short ≡ false → settled (run (at fresh (cleared buffer)) ws) ≡ loadedWords buffer ws
+unfolding loadedWords
+words-on buffer ws short e h = whole buffer ws ∙ pass short _ _ _ _ e h refl
+
+pub ends-as : {v w : Whole} {r : Answer} {after : List ℕ} → v ≡ w → Ends v r after → Ends w r after
+ends-as e h = record { told = h .told ∙ ap (λ (x : Whole). x .answer) e; kept = h .kept ∙ ap (λ (x : Whole). x .buffer) e }
+
+-- a fresh load over the cleared buffer
+pub started : (l : Load) (b buffer : List ℕ) → l ≡ fresh → b ≡ cleared buffer → at l b ≡ at fresh (cleared buffer)
+started l b buffer e q = ap (λ (x : Load). at x b) e ∙ ap (λ (x : List ℕ). at fresh x) q

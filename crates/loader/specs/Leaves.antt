@@ -8,9 +8,12 @@ use lib.ListN.{length, getD, take}
 use Rattle.image.specs.Tables.{tables}
 use Rattle.image.specs.declared.tables.Table.the-variants.{AddressLookup}
 use Rattle.stream.specs.Header.{wrong}
-use Rattle.stream.specs.Machine.{Machine, at, run}
+use Rattle.stream.specs.Machine.{Machine, at, run, wrote}
+use Rattle.stream.specs.Paper.{Whole}
+use Rattle.stream.specs.declared.Answer.{Answer}
 use Rattle.stream.specs.declared.Load.{Load}
 use Rattle.loader.specs.declared.Took.{Took}
+use Rattle.loader.specs.declared.Wrote.{Wrote}
 use Rattle.loader.specs.declared.Header.{Header}
 use Rattle.loader.specs.declared.Header.the-variants.{Wrong, Right}
 
@@ -28,3 +31,14 @@ pub record Takes (load : Load) (buffer words : List ℕ) (r : Took) (after : Lis
   pub some : 0 < r .count
   pub fits : r .count ≤ length words
   pub leaves : Leaves (run (at load buffer) (take (r .count) words)) (r .load) after
+
+-- a write leaves its answer, the load state and the buffer as `wrote` says, for every load state, buffer and words
+pub record Writes (load : Load) (buffer words : List ℕ) (r : Wrote) (after : List ℕ) : Type 0 where
+  pub answer : r .answer ≡ wrote load buffer words .answer
+  pub state : r .load ≡ wrote load buffer words .load
+  pub kept : after ≡ wrote load buffer words .buffer
+
+-- a whole load leaves this answer and this buffer
+pub record Ends (w : Whole) (answer : Answer) (after : List ℕ) : Type 0 where
+  pub told : answer ≡ w .answer
+  pub kept : after ≡ w .buffer

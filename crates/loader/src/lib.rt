@@ -5,6 +5,7 @@ use stream::Answer;
 use stream::Load;
 use stream::Phase;
 ghost use mathlib.Core.Path.{_≡_};
+ghost use mathlib.Core.Bool.{false};
 ghost use mathlib.Core.List.{[], _∷_};
 ghost use Prim.Native.Nat.{_+_, _-_, _*_, _/_, _<_, _≤_};
 ghost use lib.ListN.{length};
@@ -13,13 +14,15 @@ ghost use Rattle.image.specs.Layout.{imageWords, entryWords, imageIn};
 ghost use Rattle.image.specs.Sound.{Within};
 ghost use Rattle.image.specs.Tables.{kindOf, indexOf};
 ghost use Rattle.image.specs.Rows.{sizeOf, mostOf};
-ghost use Rattle.stream.specs.Machine.{at, fresh, idle, headed, sized, filling, told, cleared, refuse, hadIn, placeIn, finish, endedBy, begunBy, summed, filled, startedBy, step, run, answerOf, begun, beyond, overdueIn};
-ghost use Rattle.stream.specs.Paper.{numbered};
+ghost use Rattle.stream.specs.Machine.{at, fresh, idle, headed, sized, filling, told, cleared, refuse, hadIn, placeIn, finish, endedBy, begunBy, summed, filled, startedBy, step, run, answerOf, begun, beyond, overdueIn, damaged, outside, opened};
+ghost use Rattle.stream.specs.Paper.{numbered, loadedWords, wordsOf, loadedBytes};
+ghost use Rattle.stream.specs.Bytes.{wordAt};
+ghost use Rattle.stream.specs.Ends.{cutShort, settled};
 ghost use Rattle.crc.specs.Crc.{checksum};
 ghost use Rattle.stream.specs.Header.{idOf};
 ghost use Rattle.stream.specs.Fine.{Roomy, Fine};
 ghost use Rattle.stream.specs.declared.Phase.the-variants.{Data};
-ghost use Rattle.loader.specs.Leaves.{Leaves, headerOf, Takes};
+ghost use Rattle.loader.specs.Leaves.{Leaves, headerOf, Takes, Writes, Ends};
 
 // What a block's header comes to: the number 3 to 6 that it is refused with, or its table.
 pub enum Header {
@@ -469,4 +472,160 @@ fn overdue(image: &[u32], load: Load) -> bool
         Phase::Data => beyond(image, table, load.placed, load.due),
         Phase::Told(_) => false,
     }
+}
+
+// 30 for a write to a load that has begun.
+fn damaged(image: &[u32], load: Load) -> bool
+    requires { ⌜ imageWords ≤ length (now image) ⌝ }
+    ensures { λ r. ⌜ r ≡ damaged load (imageIn (now (image .entry))) ⌝ }
+{
+    let phase = load.phase;
+    if !is_begun(phase) {
+        return false;
+    }
+    if image::counts::over_limit(image) {
+        return true;
+    }
+    overdue(image, load)
+}
+
+// 32.
+fn outside(n: usize) -> bool
+    ensures { λ r. ⌜ r ≡ outside n ⌝ }
+{
+    if n == 0 {
+        return true;
+    }
+    64 < n
+}
+
+// A write that no test refuses: its first zeroes the image.
+fn opened_run(image: &mut [u32], load: Load, words: &[u32]) -> Load
+    requires { ⌜ (imageWords ≤ length (now image)) × (damaged load (imageIn (now image)) ≡ false) ⌝ }
+    ensures { λ r. ⌜ Leaves (run (opened load (now (image .entry))) (now (words .entry))) r (now (image .exit)) ⌝ }
+{
+    let phase = load.phase;
+    if is_begun(phase) {
+        return run(image, load, words);
+    }
+    clear(image);
+    run(image, load, words)
+}
+
+// Words for a load: its answer and its state afterwards. The buffer's first 11,456 words are the image.
+pub fn write(image: &mut [u32], load: Load, words: &[u32]) -> Wrote
+    ensures { λ r. ⌜ Writes load (now (image .entry)) (now (words .entry)) r (now (image .exit)) ⌝ }
+{
+    if image::counts::too_short(image) {
+        return Wrote {
+            answer: Answer::Refused(31),
+            load,
+        };
+    }
+    if damaged(image, load) {
+        return Wrote {
+            answer: Answer::Refused(30),
+            load,
+        };
+    }
+    if outside(words.len()) {
+        return Wrote {
+            answer: Answer::Refused(32),
+            load,
+        };
+    }
+    let next = opened_run(image, load, words);
+    let phase = next.phase;
+    Wrote {
+        answer: answer_of(phase),
+        load: next,
+    }
+}
+
+// 10: the words ended before the end block was complete.
+fn cut_short(image: &mut [u32]) -> Answer
+    requires { ⌜ imageWords ≤ length (now image) ⌝ }
+    ensures { λ r. ⌜ Ends (cutShort (now (image .entry))) r (now (image .exit)) ⌝ }
+{
+    clear(image);
+    Answer::Refused(10)
+}
+
+// A whole load's run has ended: its answer, or 10 where it has none.
+fn settle(image: &mut [u32], load: Load) -> Answer
+    requires { ⌜ imageWords ≤ length (now image) ⌝ }
+    ensures { λ r. ⌜ Ends (settled (at load (now (image .entry)))) r (now (image .exit)) ⌝ }
+{
+    let phase = load.phase;
+    match phase {
+        Phase::Device => cut_short(image),
+        Phase::Id => cut_short(image),
+        Phase::Length => cut_short(image),
+        Phase::Sum => cut_short(image),
+        Phase::Data => cut_short(image),
+        Phase::Told(n) => numbered(n),
+    }
+}
+
+// Words from a fresh load state.
+fn fresh_run(image: &mut [u32], words: &[u32]) -> Load
+    requires { ⌜ imageWords ≤ length (now image) ⌝ }
+    ensures { λ r. ⌜ Leaves (run (at fresh (cleared (now (image .entry)))) (now (words .entry))) r (now (image .exit)) ⌝ }
+{
+    clear(image);
+    run(image, fresh(), words)
+}
+
+// A whole stream of words.
+pub fn load_words(image: &mut [u32], words: &[u32]) -> Answer
+    ensures { λ r. ⌜ Ends (loadedWords (now (image .entry)) (now (words .entry))) r (now (image .exit)) ⌝ }
+{
+    if image::counts::too_short(image) {
+        return Answer::Refused(31);
+    }
+    let end = fresh_run(image, words);
+    settle(image, end)
+}
+
+fn octet(x: u8) -> u32
+    ensures { λ r. ⌜ (r ≡ x) × (r < 256) ⌝ }
+{
+    x as u32
+}
+
+// The word whose most significant byte stands at i.
+fn word_at(bytes: &[u8], i: usize) -> u32
+    requires { ⌜ i + 4 ≤ length (now bytes) ⌝ }
+    ensures { λ r. ⌜ r ≡ wordAt (now (bytes .entry)) i ⌝ }
+{
+    ((octet(bytes[i]) * 256 + octet(bytes[i + 1])) * 256 + octet(bytes[i + 2])) * 256 + octet(bytes[i + 3])
+}
+
+// Bytes from a fresh load state.
+fn bytes_run(image: &mut [u32], bytes: &[u8]) -> Load
+    requires { ⌜ imageWords ≤ length (now image) ⌝ }
+    ensures { λ r. ⌜ Leaves (run (at fresh (cleared (now (image .entry)))) (wordsOf (now (bytes .entry)))) r (now (image .exit)) ⌝ }
+{
+    clear(image);
+    let mut state = fresh();
+    let mut i: usize = 0;
+    while 4 <= bytes.len() - i {
+        state = step(image, state, word_at(bytes, i));
+        i += 4;
+    }
+    state
+}
+
+// A whole stream of bytes.
+pub fn load_bytes(image: &mut [u32], bytes: &[u8]) -> Answer
+    ensures { λ r. ⌜ Ends (loadedBytes (now (image .entry)) (now (bytes .entry))) r (now (image .exit)) ⌝ }
+{
+    if image::counts::too_short(image) {
+        return Answer::Refused(31);
+    }
+    if bytes.len() % 4 != 0 {
+        return Answer::Refused(9);
+    }
+    let end = bytes_run(image, bytes);
+    settle(image, end)
 }

@@ -30,13 +30,17 @@ layout-marked lists rest =
     ∙ sets-behind (entriesFrom 0 rows lists) (countsFrom 0 rows lists ++ (0 ∷ replicate 16 0) ++ rest) 9 (1 ∷ [])
     ∙ sym (append-assoc (entriesFrom 0 rows lists) (countsFrom 0 rows lists ++ (1 ∷ replicate 16 0)) rest)
 
+-- no answer has been told: 10, and the image zero
+abbrev pub cutShort : List ℕ → Whole
+cutShort buffer = record { answer = numbered 10; buffer = cleared buffer }
+
 -- what a whole load makes of where its run stands
 abbrev pub settledIn : Phase → List ℕ → Whole
-settledIn Device buffer = record { answer = numbered 10; buffer = cleared buffer }
-settledIn Id buffer = record { answer = numbered 10; buffer = cleared buffer }
-settledIn Length buffer = record { answer = numbered 10; buffer = cleared buffer }
-settledIn Sum buffer = record { answer = numbered 10; buffer = cleared buffer }
-settledIn Data buffer = record { answer = numbered 10; buffer = cleared buffer }
+settledIn Device buffer = cutShort buffer
+settledIn Id buffer = cutShort buffer
+settledIn Length buffer = cutShort buffer
+settledIn Sum buffer = cutShort buffer
+settledIn Data buffer = cutShort buffer
 settledIn (Told n) buffer = record { answer = numbered n; buffer = buffer }
 
 abbrev pub settled : Machine → Whole

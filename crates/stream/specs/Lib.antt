@@ -11,3 +11,4 @@ pub mod Fine
 pub mod Cutting
 pub mod Order
 pub mod Proved
+pub mod Bytes

@@ -1,0 +1,15 @@
+-- `loader::outside`: 0, or above 64.
+use mathlib.Core.Path.{_≡_, refl, sym, _∙_, ap, subst}
+use borrow.Author.Needs.{needs}
+use denote.Ref.{now}
+use Rattle.loader.proofs.Laws.{so}
+use Rattle.laws.specs.Chain.{hit-eq, pass-eq}
+use Rattle.loader.proofs.outside.Statement.{statement}
+use Rattle.loader.proofs.outside.Tie as tie
+
+pub outside-spec : {M : Type 1} → statement M
+outside-spec =
+    tie.close
+    (tie.spec
+    (λ c. hit-eq _ 0 _ _ (c .if1 .taken))
+    (λ c. pass-eq _ 0 _ _ _ (c .if1 .left) refl))
