@@ -36,7 +36,7 @@ others port = 31 - 2 ^ port
 abbrev pub port : ℕ → List ℕ
 port i = words 2 (others i * 2 ^ 59 + others i * 2 ^ 54 + others i * 2 ^ 49 + pmaps 8 (λ j. j))
 
--- at each output priority q has queue q
+-- at each output priority q has queue q; these entries have no mask (D60)
 abbrev pub priority : ℕ → List ℕ
 priority q = words 2 (pmaps 8 (λ j. q))
 
