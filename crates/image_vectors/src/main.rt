@@ -2,6 +2,7 @@
 // texts beside those streams give them; tests/vectors/fields.py made it and says how. This is not the loader: no checksum and no rule is tested.
 ghost use Prim.Native.Nat.{_<_, _≤_};
 use image::address;
+use image::counts::IMAGE_WORDS;
 use image::counts::count;
 use image::forwarding;
 use image::mac;
@@ -9,12 +10,16 @@ use image::parameters;
 use image::policing;
 use image::tables::Block;
 use image::tables::Table;
+use image::tables::base_of;
+use image::tables::block_of;
+use image::tables::index_of;
+use image::tables::most_of;
+use image::tables::size_of;
 use image::vlan;
 use libc::STDIN_FILENO;
 use libc::STDOUT_FILENO;
 
-const IMAGE_WORDS: usize = 11456;
-
+// Where the image has its counts, behind the entries.
 const COUNTS: usize = 11430;
 
 fn wide(byte: u8) -> u32
@@ -56,7 +61,7 @@ fn print_address(image: &[u32], i: usize) {
         return;
     }
     let n = count(image, 0);
-    if 1024 < n {
+    if most_of(Table::AddressLookup) < n {
         return;
     }
     if n <= i {
@@ -77,7 +82,7 @@ fn print_policing(image: &[u32], i: usize) {
         return;
     }
     let n = count(image, 1);
-    if 45 < n {
+    if most_of(Table::Policing) < n {
         return;
     }
     if n <= i {
@@ -97,7 +102,7 @@ fn print_vlan(image: &[u32], i: usize) {
         return;
     }
     let n = count(image, 2);
-    if 4096 < n {
+    if most_of(Table::VlanLookup) < n {
         return;
     }
     if n <= i {
@@ -116,7 +121,7 @@ fn print_forwarding(image: &[u32], i: usize) {
         return;
     }
     let n = count(image, 3);
-    if 13 < n {
+    if most_of(Table::Forwarding) < n {
         return;
     }
     if n <= i {
@@ -139,7 +144,7 @@ fn print_mac(image: &[u32], i: usize) {
         return;
     }
     let n = count(image, 4);
-    if 5 < n {
+    if most_of(Table::MacConfiguration) < n {
         return;
     }
     if n <= i {
@@ -160,7 +165,7 @@ fn print_lookup(image: &[u32]) {
         return;
     }
     let n = count(image, 5);
-    if 1 < n {
+    if most_of(Table::LookupParameters) < n {
         return;
     }
     if n == 0 {
@@ -265,9 +270,9 @@ fn place(image: &mut [u32], table: Table, data: &[u8]) {
     if image.len() < IMAGE_WORDS {
         return;
     }
-    let k = image::tables::index_of(table);
-    let size = image::tables::size_of(table);
-    let most = image::tables::most_of(table);
+    let k = index_of(table);
+    let size = size_of(table);
+    let most = most_of(table);
     let had = count(image, k);
     let more = data.len() / 4 / size;
     if most < had {
@@ -276,13 +281,13 @@ fn place(image: &mut [u32], table: Table, data: &[u8]) {
     if most - had < more {
         return;
     }
-    copy(image, image::tables::base_of(table) + had * size, data);
+    copy(image, base_of(table) + had * size, data);
     set_count(image, k, had + more);
 }
 
 // One stream: its blocks go into a fresh image, which is printed at the end block. The answer is how many bytes it has, 0 where it has no end block.
 fn stream(bytes: &[u8]) -> usize {
-    let mut image = [0u32; 11456];
+    let mut image = [0u32; IMAGE_WORDS];
     io::write_all(STDOUT_FILENO, b"device ");
     io::print_hex(STDOUT_FILENO, word(bytes, 0) as u64, 8);
     end_line();
@@ -299,7 +304,7 @@ fn stream(bytes: &[u8]) -> usize {
         if bytes.len() - at < 16 + 4 * n {
             return 0;
         }
-        let Block::Carried(table) = image::tables::block_of(word(bytes, at) / 16777216) else {
+        let Block::Carried(table) = block_of(word(bytes, at) / 16777216) else {
             return 0;
         };
         place(&mut image, table, &bytes[at + 12..at + 12 + 4 * n]);
