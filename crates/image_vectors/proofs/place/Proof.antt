@@ -1,0 +1,41 @@
+-- `image_vectors::place` is safe and ends: a table has at most 4,096 entries of at most ten words.
+use Prim.Native.Nat.{ℕ, _*_, _≤_}
+use native.Mathlib.Nat.{mul-le-mul}
+use native.Mathlib.Omega.{arith}
+use borrow.Author.Needs.{needs}
+use Rattle.image_vectors.proofs.place.Statement.{statement}
+use Rattle.image_vectors.proofs.place.Tie as tie
+
+scaled : (a b : ℕ) → a ≤ 4096 → b ≤ 10 → a * b ≤ 40960
+scaled a b h k = mul-le-mul h k
+
+mul-copy : tie.Need-mul-copy
+mul-copy c =
+    omega (arith, scaled (c .before .before .before .before .count .result) (c .before .before .before .before .before .before .before .size-of .result) (omega arith) (omega arith))
+
+add-copy : tie.Need-add-copy
+add-copy c =
+    omega (arith, scaled (c .before .before .before .before .count .result) (c .before .before .before .before .before .before .before .size-of .result) (omega arith) (omega arith))
+
+pub place-spec : {M : Type 1} → statement M
+place-spec =
+    tie.close
+    (tie.spec
+    (λ c. search needs)
+    (λ c κs. search needs)
+    (λ c κs. search needs)
+    (λ c κs. search needs)
+    (λ c κs. search needs)
+    (λ c. search needs)
+    (λ c. search needs)
+    (λ c. search needs)
+    (λ c. search needs)
+    (λ c. search needs)
+    (λ c κs. search needs)
+    mul-copy
+    add-copy
+    (λ c κs. search needs)
+    (λ c. search needs)
+    (λ c κs. search needs)
+    (λ c. search needs)
+    (λ c. search needs))
