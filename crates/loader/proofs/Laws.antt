@@ -3,7 +3,7 @@ use mathlib.Core.Path.{_≡_, refl, sym, _∙_, ap, subst}
 use mathlib.Core.Logic.{_≢_}
 use mathlib.Core.Bool.{Bool, true, false, cond, not, true≢false}
 use mathlib.Core.List.{List, [], _∷_, _++_}
-use Prim.Native.Nat.{ℕ, _+_, _-_, _*_, _/_, _<_, _≤_}
+use Prim.Native.Nat.{ℕ, _+_, _-_, _*_, _/_, _%_, _<_, _≤_}
 use native.Mathlib.Nat.{mul-comm, mul-le-mul-right, add-zero, not-suc-le-zero, le-of-eq}
 use lib.Dec.{leb, eqb, lit<}
 use native.Mathlib.Omega.{arith}
@@ -23,7 +23,8 @@ use Rattle.image.specs.declared.tables.Table.the-variants.{AddressLookup}
 use Rattle.rules.specs.Rules.{ruled}
 use Rattle.stream.specs.Header.{idOf, lengthOf, wrong}
 use Rattle.stream.specs.Machine.{Machine, at, told, idle, filling, cleared, refuse, hadIn, placeIn, finish, endedBy, begunBy, summed, filled, stepIn, step, run, beyond, fresh, begun, damaged, outside, untouched, opened, Written, written, wrote}
-use Rattle.stream.specs.Paper.{Whole, asFound, loadedWords}
+use Rattle.stream.specs.Paper.{Whole, asFound, loadedWords, wordsOf, loadedBytes}
+use Rattle.stream.specs.Bytes.{wordAt, words-from, words-none}
 use Rattle.stream.specs.Ends.{settledIn, settled, whole}
 use Rattle.stream.specs.declared.Phase.{Phase}
 use Rattle.stream.specs.declared.Phase.the-variants.{Device, Id, Length, Sum, Data, Told}
@@ -313,3 +314,28 @@ ends-as e h = record { told = h .told ∙ ap (λ (x : Whole). x .answer) e; kept
 -- a fresh load over the cleared buffer
 pub started : (l : Load) (b buffer : List ℕ) → l ≡ fresh → b ≡ cleared buffer → at l b ≡ at fresh (cleared buffer)
 started l b buffer e q = ap (λ (x : Load). at x b) e ∙ ap (λ (x : List ℕ). at fresh x) q
+
+-- ---- a whole load of bytes
+pub bytes-on : (m n : Machine) (bytes : List ℕ) (i w : ℕ) → i + 4 ≤ length bytes → w ≡ wordAt bytes i → n ≡ step m w
+    → run n (wordsOf (drop (i + 4) bytes)) ≡ run m (wordsOf (drop i bytes))
+unfolding run
+bytes-on m n bytes i w h e q =
+    ap (λ (x : Machine). run x (wordsOf (drop (i + 4) bytes))) (q ∙ ap (λ (x : ℕ). step m x) e)
+    ∙ sym (ap (λ (l : List ℕ). run m l) (words-from bytes i h))
+
+pub bytes-end : (m : Machine) (bytes : List ℕ) (i : ℕ) → length bytes < i + 4 → i ≤ length bytes → run m (wordsOf (drop i bytes)) ≡ m
+unfolding run
+bytes-end m bytes i h k = ap (λ (l : List ℕ). run m l) (words-none bytes i h k)
+
+module _ (buffer bytes : List ℕ) (short : Bool) (e : short ≡ tooShort buffer) where
+  pub bytes-31 : short ≡ true → asFound 31 buffer ≡ loadedBytes buffer bytes
+  unfolding loadedBytes
+  bytes-31 h = hit short _ _ _ e h
+
+  pub bytes-9 : short ≡ false → (length bytes % 4 ≡ 0 → ⊥) → asFound 9 buffer ≡ loadedBytes buffer bytes
+  unfolding loadedBytes
+  bytes-9 h ne = pass short _ _ _ _ e h (hit-ne (length bytes % 4) 0 _ _ ne)
+
+  pub bytes-whole : short ≡ false → length bytes % 4 ≡ 0 → settled (run (at fresh (cleared buffer)) (wordsOf bytes)) ≡ loadedBytes buffer bytes
+  unfolding loadedBytes
+  bytes-whole h q = whole buffer (wordsOf bytes) ∙ pass short _ _ _ _ e h (pass-ne (length bytes % 4) 0 _ _ _ q refl)

@@ -598,7 +598,8 @@ fn word_at(bytes: &[u8], i: usize) -> u32
     requires { ⌜ i + 4 ≤ length (now bytes) ⌝ }
     ensures { λ r. ⌜ r ≡ wordAt (now (bytes .entry)) i ⌝ }
 {
-    ((octet(bytes[i]) * 256 + octet(bytes[i + 1])) * 256 + octet(bytes[i + 2])) * 256 + octet(bytes[i + 3])
+    ((octet(bytes[i]) * 256 + octet(bytes[i + 1])) * 256 + octet(bytes[i + 2])) * 256
+        + octet(bytes[i + 3])
 }
 
 // Bytes from a fresh load state.

@@ -15,7 +15,7 @@ fresh-run-spec =
     (λ c κs. search needs)
     (λ c κs. search needs)
     (λ c κs. let a = c .before .before .before .before .before .before .before .before .args in
-      subst (λ (m : Machine). Fine m) (sym (started (c .fresh .result) _ (now (a .image)) (c .fresh .ensures) (c .before .before .before .before .clear .ensures))) (cleared-fine fresh (now (a .image)) tt))
+    subst (λ (m : Machine). Fine m) (sym (started (c .fresh .result) _ (now (a .image)) (c .fresh .ensures) (c .before .before .before .before .clear .ensures))) (cleared-fine fresh (now (a .image)) tt))
     (λ c. c .before .before .run .kept .0 ∙ c .before .before .before .before .before .before .before .clear .kept .0)
     (λ c. let a = c .before .before .before .before .before .before .before .before .before .before .before .args in
-      so (ap (λ (m : Machine). run m (now (a .words))) (started (c .before .before .before .fresh .result) _ (now (a .image)) (c .before .before .before .fresh .ensures) (c .before .before .before .before .before .before .before .clear .ensures))) (c .before .before .run .ensures)))
+    so (ap (λ (m : Machine). run m (now (a .words))) (started (c .before .before .before .fresh .result) _ (now (a .image)) (c .before .before .before .fresh .ensures) (c .before .before .before .before .before .before .before .clear .ensures))) (c .before .before .run .ensures)))

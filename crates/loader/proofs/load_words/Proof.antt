@@ -20,4 +20,4 @@ load-words-spec =
     (λ c κs. subst (λ (n : ℕ). imageWords ≤ n) (sym (c .before .before .before .fresh-run .kept .0)) (has-room (now (c .before .before .before .before .before .before .before .before .before .before .args .image)) _ (c .before .before .before .before .before .before .too-short .ensures) (c .before .before .before .before .before .if1 .left)))
     (λ c. c .before .before .settle .kept .0 ∙ c .before .before .before .before .before .before .fresh-run .kept .0)
     (λ c. let a = c .before .before .before .before .before .before .before .before .before .before .before .before .before .args in
-      ends-as (ap settled (leaves-at (c .before .before .before .before .before .before .fresh-run .ensures)) ∙ words-on (now (a .image)) (now (a .words)) _ (c .before .before .before .before .before .before .before .before .before .too-short .ensures) (c .before .before .before .before .before .before .before .before .if1 .left)) (c .before .before .settle .ensures)))
+    ends-as (ap settled (leaves-at (c .before .before .before .before .before .before .fresh-run .ensures)) ∙ words-on (now (a .image)) (now (a .words)) _ (c .before .before .before .before .before .before .before .before .before .too-short .ensures) (c .before .before .before .before .before .before .before .before .if1 .left)) (c .before .before .settle .ensures)))
