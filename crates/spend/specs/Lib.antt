@@ -2,3 +2,4 @@
 pub mod Meter
 pub mod Spend
 pub mod Proved
+pub mod Laws

@@ -1,30 +1,21 @@
+-- `spend::credit_at`: a step's gain is RATE × 15,625, and elapsed is since the meter's own time.
 use borrow.Author.Needs.{needs}
+use mathlib.Core.Path.{ap, sym, _∙_}
+use Prim.Native.Nat.{ℕ, _+_, _*_, min}
+use native.Mathlib.Nat.{mul-assoc}
 use Rattle.spend.proofs.credit_at.Statement.{statement}
 use Rattle.spend.proofs.credit_at.Tie as tie
-use Rattle.spend.proofs.credit_at.Reads as reads
-use Rattle.spend.proofs.credit_at.Lts as lts
-use Rattle.spend.proofs.elapsed.Reads as elapsed-reads
-use Rattle.spend.proofs.grown.Reads as grown-reads
-
--- src/lib.rt:61:11
-mul-grown : tie.Need-mul-grown
-mul-grown c = search needs
-
--- src/lib.rt:61:39
-elapsed-requires : tie.Need-elapsed-requires
-elapsed-requires c κs = search needs
-
--- src/lib.rt:61:62
-mul-grown-2 : tie.Need-mul-grown-2
-mul-grown-2 c = search needs
-
--- src/lib.rt:61:5
-grown-requires : tie.Need-grown-requires
-grown-requires c κs = search needs
-
--- src/lib.rt:57:1
-returns : tie.Need-returns
-returns c = search needs
 
 pub credit-at-spec : {M : Type 1} → statement M
-credit-at-spec = tie.close (tie.spec mul-grown elapsed-requires mul-grown-2 grown-requires returns)
+credit-at-spec =
+    tie.close
+    (tie.spec
+    (λ c. search needs)
+    (λ c κs. search needs)
+    (λ c. search needs)
+    (λ c κs. search needs)
+    (λ c.
+    let m = c .before .before .before .before .args .m in
+    c .grown .ensures .0
+    ∙ ap (λ (x : ℕ). min (m .smax * 8000000) (m .credit + x * (m .rate * 15625))) (c .before .before .elapsed .ensures)
+    ∙ ap (λ (x : ℕ). min (m .smax * 8000000) (m .credit + x)) (sym (mul-assoc _ (m .rate) 15625))))
