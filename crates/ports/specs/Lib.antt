@@ -1,0 +1,3 @@
+-- Where a frame is sent: ports, new priority, tags and queues.
+pub mod Ports
+pub mod Laws
