@@ -2,3 +2,4 @@
 pub mod Bytes
 pub mod Enter
 pub mod Laws
+pub mod Proved

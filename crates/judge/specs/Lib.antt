@@ -2,3 +2,4 @@
 pub mod Refusal
 pub mod Judge
 pub mod Laws
+pub mod Proved

@@ -4,3 +4,4 @@ pub mod Laws
 pub mod Answers
 pub mod Fresh
 pub mod Release
+pub mod Proved

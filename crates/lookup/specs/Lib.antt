@@ -2,3 +2,4 @@
 pub mod Vlan
 pub mod Address
 pub mod Least
+pub mod Proved

@@ -2,3 +2,4 @@
 pub mod Steps
 pub mod Passage
 pub mod Laws
+pub mod Proved

@@ -14,8 +14,9 @@ use lib.Ieee.Order.{round-mono}
 use lib.Ieee.Scale.{round-same, finite}
 use lib.Ieee.Positive.{positive, positive-finite, between}
 use borrow.Author.Tests.{ne-eqb}
-use Rattle.tile.specs.declared.shares.Tile.the-variants.{Shares}
-use Rattle.tile.specs.Tiles.{shareOf, bitsOf}
+use Rattle.ledger.specs.Laws.{Counted}
+use Rattle.tile.specs.declared.shares.Tile.the-variants.{NoFrames, Shares}
+use Rattle.tile.specs.Tiles.{shareOf, tileOf, bitsOf}
 
 -- a rounded fraction is no NaN
 odd-real : (d : ℕ) (s : Bool) (q k l : ℕ) → isNan (odd d s q k l) ≡ false
@@ -128,3 +129,23 @@ real-of (fin s m e) h = refl
 
 pub same-shares : (a b c d : Float) → a ≡ b → c ≡ d → Shares a c ≡ Shares b d
 same-shares a b c d e h = ap (λ (x : Float). Shares x c) e ∙ ap (λ (x : Float). Shares b x) h
+
+-- a port with no frames shows no share
+pub no-share : (drops octets dropped : ℕ) → tileOf 0 drops octets dropped ≡ NoFrames
+no-share drops octets dropped = refl
+
+-- a port with frames and no drops, whose counts 39 does not refuse, shows two shares, and both are +0
+pub perfect : (frames octets dropped : ℕ) → 0 < frames → frames < 18446744073709551616 → octets < 18446744073709551616
+    → Counted frames 0 octets dropped
+    → tileOf frames 0 octets dropped ≡ Shares (fin false 0 (pos 0)) (fin false 0 (pos 0))
+perfect frames octets dropped h l m c =
+    let some : 0 < octets = at-least (c .least) in
+    let none : dropped ≡ 0 = at-most (c .dropped-most) in
+    ap (λ (t : Bool). cond t NoFrames (Shares (shareOf 0 frames) (shareOf dropped octets))) (ne-eqb frames 0 (λ e. absurd (omega arith)))
+    ∙ same-shares _ _ _ _ (no-drops frames h l) (ap (λ (k : ℕ). shareOf k octets) none ∙ no-drops octets some m)
+  where
+    at-least : 4 * frames ≤ octets → 0 < octets
+    at-least k = omega arith
+
+    at-most : dropped ≤ 4100 * 0 → dropped ≡ 0
+    at-most k = omega arith
