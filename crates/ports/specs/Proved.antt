@@ -6,17 +6,18 @@ use Prim.Native.Nat.{ℕ, _+_, _<_}
 use lib.Dec.{eqb}
 use borrow.Author.Tests.{eq-eqb, ne-eqb}
 use Rattle.image.specs.Layout.{countOf}
-use Rattle.image.specs.Fields.{flDomain, destports, vlanPmap, bcDomain, vlanBc}
+use Rattle.image.specs.Fields.{flDomain, destports, vlanPmap, bcDomain, vlanBc, reachPort, vmembPort}
 use lib.Bits.{bitAnd}
 use Rattle.lookup.specs.Address.{holds, destinationAt}
 use Rattle.frame.specs.Bytes.{broadcasts}
-use Rattle.ports.specs.Ports.{towards, wantedOf, portsOf, queueOf, sendingAt, sendingOf}
+use Rattle.ports.specs.Ports.{towards, wantedOf, egressPorts, portsOf, queueOf, sendingAt, sendingOf}
 use Rattle.ports.specs.Laws.{not-back}
 
 -- no frame goes back to the port that it came from
 pub taken-out : (image : List ℕ) (port vlan entry destination : ℕ) → port < 5 → holds (portsOf image port vlan entry destination) port ≡ false
 unfolding portsOf
-taken-out image port vlan entry destination h = not-back _ port h
+taken-out image port vlan entry destination h =
+    not-back (bitAnd (bitAnd (bitAnd (wantedOf image port vlan entry destination) (reachPort image port)) (vmembPort image entry)) (egressPorts image)) port h
 
 -- a unicast with a match gets its DESTPORTS, and VLAN_BC has no part in it
 pub unicast : (image : List ℕ) (port vlan entry destination : ℕ) → broadcasts destination ≡ false
