@@ -16,7 +16,11 @@ pub enum Tag {
 // Steps 1 to 3: dropped with the step's number, or taken in with its VLAN and priority.
 pub enum Entered {
     Dropped(u32),
-    Taken { vlan: u64, priority: u64, tagged: bool },
+    Taken {
+        vlan: u64,
+        priority: u64,
+        tagged: bool,
+    },
 }
 
 fn wide(x: u8) -> u64
@@ -97,7 +101,11 @@ fn by_tag(image: &[u32], port: usize, tag: Tag) -> Entered
 {
     match tag {
         Tag::Untagged => untagged(image, port),
-        Tag::Tagged { at: _, priority, vlan } => Entered::Taken {
+        Tag::Tagged {
+            at: _,
+            priority,
+            vlan,
+        } => Entered::Taken {
             vlan: vlan_or(image, port, vlan),
             priority,
             tagged: true,

@@ -1,7 +1,7 @@
 // One frame: refused, dropped with the step's number, or sent; and the ledger afterwards.
-use ledger::range::standing;
-use ledger::range::LATEST;
 use ledger::Ledger;
+use ledger::range::LATEST;
+use ledger::range::standing;
 use passage::Passage;
 use passage::Way;
 use ports::Sending;
@@ -108,7 +108,15 @@ fn charged(ledger: Ledger, meter: usize, partition: usize, spent: Spent) -> Ledg
 }
 
 // Steps 9 to 11: the meter's and the partition's cells are loaded, and the step is taken on numbers.
-fn spend_on(image: &[u32], ledger: Ledger, time: u64, octets: u64, meter: usize, partition: usize, to: u64) -> Spent
+pub fn spend_on(
+    image: &[u32],
+    ledger: Ledger,
+    time: u64,
+    octets: u64,
+    meter: usize,
+    partition: usize,
+    to: u64,
+) -> Spent
     requires { ⌜ Sound (now image) ⌝ }
     requires { ⌜ (meter < countOf (imageIn (now image)) 1) × (partition < 8) × (octets < 65536) ⌝ }
     ensures { λ r. ⌜ r ≡ spentOf (meterOf (imageIn (now (image .entry))) ledger meter) time (getD (ledger .units) partition 0) octets to ⌝ }
@@ -123,7 +131,17 @@ fn spend_on(image: &[u32], ledger: Ledger, time: u64, octets: u64, meter: usize,
 }
 
 // The verdict by what steps 9 to 11 answer; their cells are stored either way.
-fn settled_by(image: &[u32], ledger: Ledger, port: usize, time: u64, octets: u64, way: Way, partition: usize, to: u64, spent: Spent) -> Judged
+fn settled_by(
+    image: &[u32],
+    ledger: Ledger,
+    port: usize,
+    time: u64,
+    octets: u64,
+    way: Way,
+    partition: usize,
+    to: u64,
+    spent: Spent,
+) -> Judged
     requires { ⌜ Sound (now image) ⌝ }
     requires { ⌜ Countable ledger port ⌝ }
     requires { ⌜ (port < 5) × (octets < 65536) × (partition < 8) ⌝ }
@@ -143,7 +161,16 @@ fn settled_by(image: &[u32], ledger: Ledger, port: usize, time: u64, octets: u64
     }
 }
 
-fn settled_with(image: &[u32], ledger: Ledger, port: usize, time: u64, octets: u64, way: Way, partition: usize, to: u64) -> Judged
+fn settled_with(
+    image: &[u32],
+    ledger: Ledger,
+    port: usize,
+    time: u64,
+    octets: u64,
+    way: Way,
+    partition: usize,
+    to: u64,
+) -> Judged
     requires { ⌜ Sound (now image) ⌝ }
     requires { ⌜ Countable ledger port ⌝ }
     requires { ⌜ (port < 5) × (octets < 65536) × (partition < 8) ⌝ }
@@ -154,8 +181,15 @@ fn settled_with(image: &[u32], ledger: Ledger, port: usize, time: u64, octets: u
     settled_by(image, ledger, port, time, octets, way, partition, to, spent)
 }
 
-// Steps 9 to 11 for a frame that passed 1 to 8.
-fn settle(image: &[u32], ledger: Ledger, port: usize, time: u64, frame: &[u8], way: Way) -> Judged
+// Steps 9 to 11 for a frame that passed 1 to 8, or for one that is run with a VLAN, a priority and a port of its own.
+pub fn settle(
+    image: &[u32],
+    ledger: Ledger,
+    port: usize,
+    time: u64,
+    frame: &[u8],
+    way: Way,
+) -> Judged
     requires { ⌜ Sound (now image) ⌝ }
     requires { ⌜ Countable ledger port ⌝ }
     requires { ⌜ (port < 5) × (length (now frame) ≤ 4096) ⌝ }
@@ -168,7 +202,14 @@ fn settle(image: &[u32], ledger: Ledger, port: usize, time: u64, frame: &[u8], w
     settled_with(image, ledger, port, time, octets, way, partition, to)
 }
 
-fn by_passage(image: &[u32], ledger: Ledger, port: usize, time: u64, frame: &[u8], passage: Passage) -> Judged
+fn by_passage(
+    image: &[u32],
+    ledger: Ledger,
+    port: usize,
+    time: u64,
+    frame: &[u8],
+    passage: Passage,
+) -> Judged
     requires { ⌜ Sound (now image) ⌝ }
     requires { ⌜ Countable ledger port ⌝ }
     requires { ⌜ (port < 5) × (length (now frame) ≤ 4096) ⌝ }
@@ -195,5 +236,12 @@ pub fn judge(image: &[u32], ledger: Ledger, port: usize, time: u64, frame: &[u8]
             ledger,
         };
     }
-    by_passage(image, ledger, port, time, frame, passage::pass(image, port, frame))
+    by_passage(
+        image,
+        ledger,
+        port,
+        time,
+        frame,
+        passage::pass(image, port, frame),
+    )
 }

@@ -1,8 +1,8 @@
 // A fresh ledger.
-use crate::range::full;
 use crate::Answer;
 use crate::Ledger;
 use crate::Outcome;
+use crate::range::full;
 ghost use mathlib.Core.Path.{_≡_};
 ghost use Prim.Native.Nat.{_<_};
 ghost use Rattle.image.specs.Layout.{imageIn};

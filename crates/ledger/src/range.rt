@@ -81,7 +81,12 @@ fn counts_off(frames: u64, drops: u64, octets: u64, dropped: u64) -> bool
     octets < dropped
 }
 
-fn tiles_off<'a>(frames: &'a [u64; 5], drops: &'a [u64; 5], octets: &'a [u64; 5], dropped: &'a [u64; 5]) -> bool
+fn tiles_off<'a>(
+    frames: &'a [u64; 5],
+    drops: &'a [u64; 5],
+    octets: &'a [u64; 5],
+    dropped: &'a [u64; 5],
+) -> bool
     ensures { λ r. ⌜ r ≡ tilesOff (now (frames .entry)) (now (drops .entry)) (now (octets .entry)) (now (dropped .entry)) ⌝ }
 {
     let mut p: usize = 0;

@@ -1,8 +1,8 @@
 // A release of a frame's units.
-use crate::range::standing;
 use crate::Answer;
 use crate::Ledger;
 use crate::Outcome;
+use crate::range::standing;
 ghost use mathlib.Core.Path.{_≡_};
 ghost use Prim.Native.Nat.{_<_};
 ghost use lib.Dec.{leb};

@@ -160,7 +160,15 @@ fn by_policer(vlan: u64, priority: u64, entry: usize, policed: Policed) -> Passa
 }
 
 // Steps 5 to 8, with the VLAN's entry.
-fn known(image: &[u32], port: usize, frame: &[u8], vlan: u64, priority: u64, tagged: bool, entry: usize) -> Passage
+fn known(
+    image: &[u32],
+    port: usize,
+    frame: &[u8],
+    vlan: u64,
+    priority: u64,
+    tagged: bool,
+    entry: usize,
+) -> Passage
     requires { ⌜ Sound (now image) ⌝ }
     requires { ⌜ (port < 5) × (priority < 8) × (entry < countOf (imageIn (now image)) 2) × (60 ≤ length (now frame)) ⌝ }
     ensures { λ r. ⌜ r ≡ knownOf (imageIn (now (image .entry))) port (now (frame .entry)) vlan priority tagged entry ⌝ }
@@ -170,10 +178,23 @@ fn known(image: &[u32], port: usize, frame: &[u8], vlan: u64, priority: u64, tag
         return Passage::Dropped(drop);
     }
     let octets = frame.len() as u64 + 4;
-    by_policer(vlan, priority, entry, police(image, port, priority, frame::mac_at(frame, 0), octets))
+    by_policer(
+        vlan,
+        priority,
+        entry,
+        police(image, port, priority, frame::mac_at(frame, 0), octets),
+    )
 }
 
-fn by_place(image: &[u32], port: usize, frame: &[u8], vlan: u64, priority: u64, tagged: bool, placed: Placed) -> Passage
+fn by_place(
+    image: &[u32],
+    port: usize,
+    frame: &[u8],
+    vlan: u64,
+    priority: u64,
+    tagged: bool,
+    placed: Placed,
+) -> Passage
     requires { ⌜ Sound (now image) ⌝ }
     requires { ⌜ (port < 5) × (priority < 8) × (60 ≤ length (now frame)) ⌝ }
     requires { ⌜ Inside (imageIn (now image)) placed ⌝ }
@@ -193,8 +214,20 @@ fn by_entry(image: &[u32], port: usize, frame: &[u8], entered: Entered) -> Passa
 {
     match entered {
         Entered::Dropped(drop) => Passage::Dropped(drop),
-        Entered::Taken { vlan, priority, tagged } => {
-            by_place(image, port, frame, vlan, priority, tagged, place(image, vlan))
+        Entered::Taken {
+            vlan,
+            priority,
+            tagged,
+        } => {
+            by_place(
+                image,
+                port,
+                frame,
+                vlan,
+                priority,
+                tagged,
+                place(image, vlan),
+            )
         }
     }
 }

@@ -40,7 +40,11 @@ fn wanted(image: &[u32], port: usize, vlan: u64, entry: usize, destination: u64)
     if destination == 0xFFFFFFFFFFFF {
         return image::forwarding::bc_domain(image, port) & image::vlan::vlan_bc(image, entry);
     }
-    towards(image, port, lookup::address::destination(image, vlan, destination))
+    towards(
+        image,
+        port,
+        lookup::address::destination(image, vlan, destination),
+    )
 }
 
 // A mask of five bits, the first the lowest.
@@ -129,7 +133,14 @@ fn send_at(image: &[u32], ports: u64, vlan: u64, q: u64, entry: usize) -> Sendin
 }
 
 // What a frame that is sent to these ports gets.
-pub fn send(image: &[u32], port: usize, ports: u64, vlan: u64, priority: u64, entry: usize) -> Sending
+pub fn send(
+    image: &[u32],
+    port: usize,
+    ports: u64,
+    vlan: u64,
+    priority: u64,
+    entry: usize,
+) -> Sending
     requires { ⌜ Sound (now image) ⌝ }
     requires { ⌜ (port < 5) × (priority < 8) × (entry < countOf (imageIn (now image)) 2) ⌝ }
     ensures { λ r. ⌜ r ≡ sendingOf (imageIn (now (image .entry))) port ports vlan priority entry ⌝ }

@@ -58,7 +58,12 @@ fn credit_at(m: Meter, now: u64) -> u64
     requires { ⌜ (m .smax < 65536) × (m .rate < 65536) ⌝ }
     ensures { λ r. ⌜ r ≡ creditAt m now ⌝ }
 {
-    grown(m.smax * 8000000, m.credit, elapsed(now, m.since), m.rate * 15625)
+    grown(
+        m.smax * 8000000,
+        m.credit,
+        elapsed(now, m.since),
+        m.rate * 15625,
+    )
 }
 
 // Drops 10 and 11, and sent.

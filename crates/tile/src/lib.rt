@@ -12,7 +12,12 @@ fn tile_at(ledger: Ledger, port: usize) -> Tile
     requires { ⌜ port < 5 ⌝ }
     ensures { λ r. ⌜ r ≡ tileAt ledger port ⌝ }
 {
-    shares::tile_of(ledger.frames[port], ledger.drops[port], ledger.octets[port], ledger.dropped[port])
+    shares::tile_of(
+        ledger.frames[port],
+        ledger.drops[port],
+        ledger.octets[port],
+        ledger.dropped[port],
+    )
 }
 
 // What the screen shows of a port. It changes nothing.
