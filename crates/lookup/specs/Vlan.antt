@@ -1,4 +1,5 @@
 -- The entry of 07 for a VLAN (document 01, drop 4 and rule 22).
+use mathlib.Core.Path.{_≡_}
 use mathlib.Core.List.{List}
 use Prim.Native.Nat.{ℕ}
 use lib.Dec.{eqb}

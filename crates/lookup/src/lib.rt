@@ -1,2 +1,3 @@
 // Searches in the tables of an image.
+pub mod address;
 pub mod vlan;

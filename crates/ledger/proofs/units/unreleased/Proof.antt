@@ -1,0 +1,16 @@
+-- `ledger::units::unreleased`: 36, then 37.
+use borrow.Author.Needs.{needs}
+use Rattle.laws.specs.Chain.{chain}
+use Rattle.ledger.proofs.units.unreleased.Statement.{statement}
+use Rattle.ledger.proofs.units.unreleased.Tie as tie
+
+pub unreleased-spec : {M : Type 1} → statement M
+unreleased-spec =
+    tie.close
+    (tie.spec
+    (λ c. search (needs, chain) depth 40)
+    (λ c. search needs)
+    (λ c. search needs)
+    (λ c κs. search needs)
+    (λ c. search (needs, chain) depth 40)
+    (λ c. search (needs, chain) depth 40))

@@ -1,0 +1,7 @@
+-- The ledger: when it is out of range, what a fresh one holds, what a release gives back.
+pub mod Range
+pub mod Laws
+pub mod Answers
+pub mod Fresh
+pub mod Release
+pub mod Proved

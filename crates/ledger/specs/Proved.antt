@@ -1,0 +1,48 @@
+-- What pins the definitions: 39's bounds on octets at their edges, and that each entry's promise permits one outcome.
+use mathlib.Core.Path.{_≡_, refl, sym, _∙_, ap}
+use mathlib.Core.Bool.{true, false}
+use mathlib.Core.List.{List}
+use Prim.Native.Nat.{ℕ}
+use Rattle.ledger.specs.declared.Answer.{Answer}
+use Rattle.ledger.specs.declared.Ledger.{Ledger}
+use Rattle.ledger.specs.declared.Outcome.{Outcome}
+use Rattle.ledger.specs.Range.{octetsOff, countsOff}
+use Rattle.ledger.specs.Answers.{outcome}
+use Rattle.ledger.specs.Fresh.{Freshened}
+use Rattle.ledger.specs.Release.{released, Released}
+
+-- octets of one frame: from 4 to 4,100, both included
+pub octets-3 : octetsOff 1 3 ≡ true
+unfolding octetsOff
+octets-3 = refl
+
+pub octets-4 : octetsOff 1 4 ≡ false
+unfolding octetsOff
+octets-4 = refl
+
+pub octets-4100 : octetsOff 1 4100 ≡ false
+unfolding octetsOff
+octets-4100 = refl
+
+pub octets-4101 : octetsOff 1 4101 ≡ true
+unfolding octetsOff
+octets-4101 = refl
+
+-- more drops than frames, and dropped octets above octets
+pub drops-over : countsOff 1 2 100 100 ≡ true
+drops-over = refl
+
+pub dropped-over : countsOff 2 1 100 101 ≡ true
+unfolding octetsOff
+dropped-over = refl
+
+same-outcome : (r s : Outcome) → r .answer ≡ s .answer → r .ledger ≡ s .ledger → r ≡ s
+same-outcome r s e h = ap (λ (a : Answer). outcome a (r .ledger)) e ∙ ap (λ (g : Ledger). outcome (s .answer) g) h
+
+-- a fresh ledger's promise permits one outcome
+pub one-fresh : (buffer : List ℕ) (r s : Outcome) → Freshened buffer r → Freshened buffer s → r ≡ s
+one-fresh buffer r s a b = same-outcome r s (a .answer ∙ sym (b .answer)) (a .ledger ∙ sym (b .ledger))
+
+-- and so does a release's
+pub one-release : (buffer : List ℕ) (g : Ledger) (partition : ℕ) (r s : Outcome) → Released buffer g partition r → Released buffer g partition s → r ≡ s
+one-release buffer g partition r s a b = same-outcome r s (a .answer ∙ sym (b .answer)) (a .ledger ∙ sym (b .ledger))

@@ -1,0 +1,15 @@
+-- `lookup::address::leads_to`: the mask that was read is the entry's.
+use borrow.Author.Needs.{needs}
+use mathlib.Core.Path.{_∙_, ap}
+use Prim.Native.Nat.{ℕ}
+use Rattle.lookup.specs.Address.{holds}
+use Rattle.lookup.proofs.address.leads_to.Statement.{statement}
+use Rattle.lookup.proofs.address.leads_to.Tie as tie
+
+pub leads-to-spec : {M : Type 1} → statement M
+leads-to-spec =
+    tie.close
+    (tie.spec
+    (λ c κs. search needs)
+    (λ c κs. search needs)
+    (λ c. c .holds .ensures ∙ ap (λ (x : ℕ). holds x (c .before .before .before .args .port)) (c .before .destports .ensures .0)))

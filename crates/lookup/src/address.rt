@@ -1,0 +1,106 @@
+// Entries of 05 for an address: one that bars a source from a port, and the one for a destination.
+ghost use mathlib.Core.Path.{_≡_};
+ghost use mathlib.Core.Bool.{cond, false};
+ghost use Prim.Native.Nat.{_≤_, _<_};
+ghost use lib.Dec.{ltb, eqb};
+ghost use lib.ListN.{length};
+ghost use Rattle.image.specs.Layout.{Held, imageWords, imageIn, countOf};
+ghost use Rattle.image.specs.Fields.{sharedLearn, destports, index};
+ghost use Rattle.lookup.specs.Address.{holds, matches, bars, barred, destinationAt};
+
+// Is the port in the mask?
+pub fn holds(mask: u64, port: usize) -> bool
+    requires { ⌜ port < 64 ⌝ }
+    ensures { λ r. ⌜ r ≡ holds mask port ⌝ }
+{
+    (mask >> port as u64) % 2 == 1
+}
+
+// Is the port in entry i's DESTPORTS?
+fn leads_to(image: &[u32], port: usize, i: usize) -> bool
+    requires { ⌜ Held 0 i (now image) ⌝ }
+    requires { ⌜ port < 64 ⌝ }
+    ensures { λ r. ⌜ r ≡ holds (destports (imageIn (now (image .entry))) i) port ⌝ }
+{
+    holds(image::address::destports(image, i), port)
+}
+
+// Has entry i the address, and the VLAN where VLANs are compared?
+fn matches(image: &[u32], shared: u64, vlan: u64, mac: u64, i: usize) -> bool
+    requires { ⌜ Held 0 i (now image) ⌝ }
+    requires { ⌜ shared ≡ sharedLearn (imageIn (now image)) ⌝ }
+    ensures { λ r. ⌜ r ≡ matches (imageIn (now (image .entry))) vlan mac i ⌝ }
+{
+    if image::address::macaddr(image, i) != mac {
+        return false;
+    }
+    if shared == 1 {
+        return true;
+    }
+    image::address::vlanid(image, i) == vlan
+}
+
+// Does entry i keep this source from this port?
+fn bars(image: &[u32], shared: u64, port: usize, vlan: u64, mac: u64, i: usize) -> bool
+    requires { ⌜ Held 0 i (now image) ⌝ }
+    requires { ⌜ (shared ≡ sharedLearn (imageIn (now image))) × (port < 64) ⌝ }
+    ensures { λ r. ⌜ r ≡ bars (imageIn (now (image .entry))) port vlan mac i ⌝ }
+{
+    if image::address::enfport(image, i) == 0 {
+        return false;
+    }
+    if leads_to(image, port, i) {
+        return false;
+    }
+    matches(image, shared, vlan, mac, i)
+}
+
+// Drop 6: does some entry keep this source from this port?
+pub fn barred(image: &[u32], port: usize, vlan: u64, mac: u64) -> bool
+    requires { ⌜ (imageWords ≤ length (now image)) × (countOf (imageIn (now image)) 0 ≤ 1024) × (countOf (imageIn (now image)) 5 ≤ 1) ⌝ }
+    requires { ⌜ port < 64 ⌝ }
+    ensures { λ r. ⌜ r ≡ barred (imageIn (now (image .entry))) port vlan mac ⌝ }
+{
+    let n = image::counts::count(image, 0);
+    let shared = image::parameters::shared_learn(image);
+    let mut i: usize = 0;
+    while i < n {
+        if bars(image, shared, port, vlan, mac, i) {
+            return true;
+        }
+        i += 1;
+    }
+    false
+}
+
+// Does entry i match, with an INDEX below the lowest so far?
+fn lower(image: &[u32], shared: u64, vlan: u64, mac: u64, i: usize, low: u64) -> bool
+    requires { ⌜ Held 0 i (now image) ⌝ }
+    requires { ⌜ shared ≡ sharedLearn (imageIn (now image)) ⌝ }
+    ensures { λ r. ⌜ r ≡ cond (matches (imageIn (now (image .entry))) vlan mac i) (ltb (index (imageIn (now (image .entry))) i) low) false ⌝ }
+{
+    if matches(image, shared, vlan, mac, i) {
+        return image::address::index(image, i) < low;
+    }
+    false
+}
+
+// The match with the lowest INDEX, of equal ones the first; the count of 05 where nothing matches.
+pub fn destination(image: &[u32], vlan: u64, mac: u64) -> usize
+    requires { ⌜ (imageWords ≤ length (now image)) × (countOf (imageIn (now image)) 0 ≤ 1024) × (countOf (imageIn (now image)) 5 ≤ 1) ⌝ }
+    ensures { λ r. ⌜ (r ≡ destinationAt (imageIn (now (image .entry))) vlan mac) × (r ≤ countOf (imageIn (now (image .entry))) 0) ⌝ }
+{
+    let n = image::counts::count(image, 0);
+    let shared = image::parameters::shared_learn(image);
+    let mut best: usize = n;
+    let mut low: u64 = 1024;
+    let mut i: usize = 0;
+    while i < n {
+        if lower(image, shared, vlan, mac, i, low) {
+            best = i;
+            low = image::address::index(image, i);
+        }
+        i += 1;
+    }
+    best
+}

@@ -1,0 +1,4 @@
+-- Where a frame is sent: ports, new priority, tags and queues.
+pub mod Ports
+pub mod Laws
+pub mod Proved

@@ -1,0 +1,3 @@
+-- A port's tile: not-loaded, no-frames, or two shares.
+pub mod Tiles
+pub mod Shares
