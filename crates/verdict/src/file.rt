@@ -1,0 +1,167 @@
+// The stream's file: counted first, then sent in writes.
+use stream::Answer;
+
+ghost use Prim.Native.Nat.{_≤_};
+ghost use lib.ListN.{length};
+
+// How many bytes a call moved, and whether a read failed.
+pub struct Filled {
+    pub count: usize,
+    pub broken: bool,
+}
+
+// What counting a file's bytes came to.
+enum Counted {
+    Ended(u64),
+    PastBudget,
+    Unreadable,
+}
+
+// A file that does not end is counted up to here; past it 9 is not asked.
+const BUDGET: u64 = 4294967296;
+
+// Reads until buf is full, the input ends or a read fails.
+pub fn fill(fd: i32, buf: &mut [u8]) -> Filled
+    ensures { λ r. ⌜ r .count ≤ length (now (buf .exit)) ⌝ }
+{
+    let mut done: usize = 0;
+    while done < buf.len() {
+        let got = libc::read(fd, &mut buf[done..]);
+        if got < 0 {
+            return Filled {
+                count: done,
+                broken: true,
+            };
+        }
+        let n = io::count(got, &buf[done..]);
+        if n == 0 {
+            return Filled {
+                count: done,
+                broken: false,
+            };
+        }
+        done += n;
+    }
+    Filled {
+        count: done,
+        broken: false,
+    }
+}
+
+// Counts what is left of a file.
+fn count_bytes(fd: i32) -> Counted {
+    let mut buf = io::large_buffer();
+    let mut bytes: u64 = 0;
+    while bytes <= BUDGET {
+        let got = libc::read(fd, &mut buf);
+        if got < 0 {
+            return Counted::Unreadable;
+        }
+        let n = io::count(got, &buf);
+        if n == 0 {
+            return Counted::Ended(bytes);
+        }
+        bytes += n as u64;
+    }
+    Counted::PastBudget
+}
+
+fn octet(x: u8) -> u32
+    ensures { λ r. ⌜ r < 256 ⌝ }
+{
+    x as u32
+}
+
+// The word whose most significant byte stands at i; 0 past the end.
+fn word(bytes: &[u8], i: usize) -> u32 {
+    if bytes.len() < 4 {
+        return 0;
+    }
+    if bytes.len() - 4 < i {
+        return 0;
+    }
+    ((octet(bytes[i]) * 256 + octet(bytes[i + 1])) * 256 + octet(bytes[i + 2])) * 256 + octet(bytes[i + 3])
+}
+
+// The words of a write.
+fn words_of(bytes: &[u8]) -> [u32; 64] {
+    let mut words = [0u32; 64];
+    let mut i: usize = 0;
+    while i < 64 {
+        words[i] = word(bytes, i * 4);
+        i += 1;
+    }
+    words
+}
+
+// What a write has to say: its number, or that more is wanted.
+enum Said {
+    More,
+    Number(u32),
+}
+
+fn said(answer: Answer) -> Said {
+    match answer {
+        Answer::More => Said::More,
+        Answer::Loaded => Said::Number(0),
+        Answer::Refused(n) => Said::Number(n),
+    }
+}
+
+// Writes of 64 words until one answers otherwise than "more" or the file ends, which is 10. Every stream is answered within 32,182 words,
+// so the turns are never used up.
+fn send(fd: i32, image: &mut [u32]) -> u32 {
+    let mut load = loader::fresh();
+    let mut turns: u32 = 1024;
+    while 0 < turns {
+        let mut bytes = [0u8; 256];
+        let filled = fill(fd, &mut bytes);
+        let n = filled.count / 4;
+        if n == 0 {
+            return 10;
+        }
+        if 64 < n {
+            return 10;
+        }
+        let words = words_of(&bytes);
+        let wrote = loader::write(image, load, &words[..n]);
+        let answer = wrote.answer;
+        if let Said::Number(number) = said(answer) {
+            return number;
+        }
+        load = wrote.load;
+        turns -= 1;
+    }
+    10
+}
+
+// The number of a stream's file: 10 where it cannot be opened or read, then 9, then 10 where it is empty, then the writes' answer.
+pub fn load(path: &[u8], image: &mut [u32]) -> u32 {
+    let first = os::open_read(path);
+    if first < 0 {
+        return 10;
+    }
+    let counted = count_bytes(first);
+    libc::close(first);
+    match counted {
+        Counted::Unreadable => {
+            return 10;
+        }
+        Counted::Ended(bytes) => {
+            if bytes % 4 != 0 {
+                return 9;
+            }
+            if bytes == 0 {
+                return 10;
+            }
+        }
+        Counted::PastBudget => {}
+    }
+    let second = os::open_read(path);
+    if second < 0 {
+        return 10;
+    }
+    let number = send(second, image);
+    libc::close(second);
+    number
+}

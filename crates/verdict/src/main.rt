@@ -1,0 +1,22 @@
+// The verdict program: a stream's file is loaded, a list of records is walked, and what the switch does with each is printed.
+// It prints and nothing else: every number that it shows comes from the proved crates.
+mod file;
+mod list;
+mod print;
+
+fn main() {
+    let mut path = io::buffer();
+    let length = os::arg(1, &mut path);
+    if os::errno() != 0 {
+        print::config_refused(10);
+        return;
+    }
+    let mut image = [0u32; 11456];
+    let number = file::load(&path[..length], &mut image);
+    if number != 0 {
+        print::config_refused(number);
+        return;
+    }
+    print::text(b"config loaded\n");
+    list::walk(&image);
+}
