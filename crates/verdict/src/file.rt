@@ -1,8 +1,8 @@
 // The stream's file: counted first, then sent in writes.
 use stream::Answer;
 
-ghost use Prim.Native.Nat.{_≤_};
-ghost use lib.ListN.{length};
+ghost use Prim.Native.Nat.{_<_};
+ghost use Rattle.io.specs.Counts.{Counts};
 
 // How many bytes a call moved, and whether a read failed.
 pub struct Filled {
@@ -20,32 +20,40 @@ enum Counted {
 // A file that does not end is counted up to here; past it 9 is not asked.
 const BUDGET: u64 = 4294967296;
 
+// What was read, no more than there is.
+fn filled_with(done: usize, buf: &[u8], broken: bool) -> Filled
+    ensures { λ r. ⌜ Counts (r .count) (now (buf .entry)) ⌝ }
+{
+    if done <= buf.len() {
+        Filled {
+            count: done,
+            broken,
+        }
+    } else {
+        Filled {
+            count: buf.len(),
+            broken,
+        }
+    }
+}
+
 // Reads until buf is full, the input ends or a read fails.
 pub fn fill(fd: i32, buf: &mut [u8]) -> Filled
-    ensures { λ r. ⌜ r .count ≤ length (now (buf .exit)) ⌝ }
+    ensures { λ r. ⌜ Counts (r .count) (now (buf .exit)) ⌝ }
 {
     let mut done: usize = 0;
     while done < buf.len() {
         let got = libc::read(fd, &mut buf[done..]);
         if got < 0 {
-            return Filled {
-                count: done,
-                broken: true,
-            };
+            return filled_with(done, buf, true);
         }
         let n = io::count(got, &buf[done..]);
         if n == 0 {
-            return Filled {
-                count: done,
-                broken: false,
-            };
+            return filled_with(done, buf, false);
         }
         done += n;
     }
-    Filled {
-        count: done,
-        broken: false,
-    }
+    filled_with(done, buf, false)
 }
 
 // Counts what is left of a file.
@@ -94,13 +102,24 @@ fn words_of(bytes: &[u8]) -> [u32; 64] {
     words
 }
 
+// A number of words, no more than there are.
+fn at_most(n: usize, words: &[u32]) -> usize
+    ensures { λ r. ⌜ Counts r (now (words .entry)) ⌝ }
+{
+    if n <= words.len() {
+        n
+    } else {
+        words.len()
+    }
+}
+
 // What a write has to say: its number, or that more is wanted.
 enum Said {
     More,
     Number(u32),
 }
 
-fn said(answer: Answer) -> Said {
+fn heard(answer: Answer) -> Said {
     match answer {
         Answer::More => Said::More,
         Answer::Loaded => Said::Number(0),
@@ -120,13 +139,11 @@ fn send(fd: i32, image: &mut [u32]) -> u32 {
         if n == 0 {
             return 10;
         }
-        if 64 < n {
-            return 10;
-        }
         let words = words_of(&bytes);
-        let wrote = loader::write(image, load, &words[..n]);
+        let count = at_most(n, &words);
+        let wrote = loader::write(image, load, &words[..count]);
         let answer = wrote.answer;
-        if let Said::Number(number) = said(answer) {
+        if let Said::Number(number) = heard(answer) {
             return number;
         }
         load = wrote.load;

@@ -7,13 +7,22 @@ use records::{Record, Refusal};
 // One record more than the most bytes, so that a list that is too long shows.
 const MOST: usize = 16385;
 
-// The tiles' lines.
-fn tiles(image: &[u32], ledger: Ledger) {
-    let mut port: usize = 0;
-    while port < 5 {
-        print::tile_line(port as u64, ledger.frames[port], ledger.drops[port], tile::tile(image, ledger, port));
-        port += 1;
+// A port's tile with its counts.
+fn tile_of(image: &[u32], ledger: Ledger, port: usize) {
+    if 5 <= port {
+        return;
     }
+    let frames = ledger.frames;
+    let drops = ledger.drops;
+    print::tile_line(port as u64, frames[port], drops[port], tile::tile(image, ledger, port));
+}
+
+fn tiles(image: &[u32], ledger: Ledger) {
+    tile_of(image, ledger, 0);
+    tile_of(image, ledger, 1);
+    tile_of(image, ledger, 2);
+    tile_of(image, ledger, 3);
+    tile_of(image, ledger, 4);
 }
 
 fn release(image: &[u32], ledger: Ledger, record: u64, partition: usize) -> Ledger {
@@ -35,6 +44,14 @@ fn frame(image: &[u32], ledger: Ledger, record: u64, port: usize, time: u64, byt
     next
 }
 
+// The number of the record after record n; a list never has so many that it stays.
+fn following(n: u64) -> u64 {
+    if n == u64::MAX {
+        return n;
+    }
+    n + 1
+}
+
 // Each record in turn; what is left of the walk ends it.
 fn records_of(image: &[u32], list: &[u8], fresh: Ledger, broken: bool) -> Ledger {
     let mut ledger = fresh;
@@ -51,10 +68,12 @@ fn records_of(image: &[u32], list: &[u8], fresh: Ledger, broken: bool) -> Ledger
                 next,
             } => {
                 ledger = frame(image, ledger, record, port, time, &list[start..next]);
+                record = following(record);
                 at = next;
             }
             Record::Release { partition, next } => {
                 ledger = release(image, ledger, record, partition);
+                record = following(record);
                 at = next;
             }
             Record::End => {
@@ -67,9 +86,6 @@ fn records_of(image: &[u32], list: &[u8], fresh: Ledger, broken: bool) -> Ledger
                 print::list_refused(records::number_of(why));
                 return ledger;
             }
-        }
-        if record < 1000000 {
-            record += 1;
         }
     }
 }

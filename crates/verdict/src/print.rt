@@ -17,16 +17,20 @@ fn after(word: &[u8], n: u64) {
     number(n);
 }
 
+fn not_loaded(port: u64) {
+    after(b"tile ", port);
+    text(b" not-loaded\n");
+}
+
 // A stream that is refused: no list is read, and no tile is loaded.
 pub fn config_refused(n: u32) {
     after(b"config refused ", n as u64);
     text(b"\n");
-    let mut port: u64 = 0;
-    while port < 5 {
-        after(b"tile ", port);
-        text(b" not-loaded\n");
-        port += 1;
-    }
+    not_loaded(0);
+    not_loaded(1);
+    not_loaded(2);
+    not_loaded(3);
+    not_loaded(4);
 }
 
 pub fn refused(n: u64) {
@@ -89,10 +93,7 @@ pub fn tile_line(port: u64, frames: u64, drops: u64, asked: Asked) {
             text(b"\n");
         }
         Asked::Shown(t) => match t {
-            Tile::NotLoaded => {
-                after(b"tile ", port);
-                text(b" not-loaded\n");
-            }
+            Tile::NotLoaded => not_loaded(port),
             Tile::NoFrames => {
                 after(b"tile ", port);
                 text(b" no-frames\n");
