@@ -7,6 +7,15 @@ ghost use Rattle.image.specs.Sound.{Sound};
 ghost use Rattle.frame.specs.Bytes.{macAt, pairAt, tagOf};
 ghost use Rattle.frame.specs.Enter.{vlanOr, untaggedOf, byTag, enteredOf};
 
+// The one broadcast address.
+pub const BROADCAST: u64 = 0xFFFFFFFFFFFF;
+
+// What bytes 12 and 13 are in a tagged frame.
+const TAGGED: u64 = 0x8100;
+
+// The bytes below which L is below 64.
+const LEAST_BYTES: usize = 60;
+
 // A frame's tag, with the place of its first byte.
 pub enum Tag {
     Untagged,
@@ -54,7 +63,7 @@ pub fn tag_of(frame: &[u8]) -> Tag
     requires { ⌜ 60 ≤ length (now frame) ⌝ }
     ensures { λ r. ⌜ r ≡ tagOf (now (frame .entry)) ⌝ }
 {
-    if pair_at(frame, 12) == 0x8100 {
+    if pair_at(frame, 12) == TAGGED {
         let control = pair_at(frame, 14);
         return Tag::Tagged {
             at: 12,
@@ -119,7 +128,7 @@ pub fn enter(image: &[u32], port: usize, frame: &[u8]) -> Entered
     requires { ⌜ port < 5 ⌝ }
     ensures { λ r. ⌜ r ≡ enteredOf (imageIn (now (image .entry))) port (now (frame .entry)) ⌝ }
 {
-    if frame.len() < 60 {
+    if frame.len() < LEAST_BYTES {
         return Entered::Dropped(1);
     }
     if image::mac::ingress(image, port) == 0 {

@@ -7,14 +7,16 @@ use lib.Dec.{eqb}
 use lib.ListN.{getD, set}
 use borrow.Author.Tests.{ne-eqb}
 use Rattle.image.specs.Layout.{imageIn}
-use Rattle.image.specs.Fields.{smax, rate}
+use Rattle.image.specs.Loaded.{tooShort}
+use Rattle.ledger.specs.Range.{standing}
+use Rattle.ledger.specs.Proved.{same-standing}
 use Rattle.ledger.specs.declared.Ledger.{Ledger}
 use Rattle.passage.specs.Passage.{passageOf}
 use Rattle.spend.specs.declared.Counts.{Counts}
 use Rattle.spend.specs.Spend.{countedOf}
 use Rattle.judge.specs.declared.Verdict.the-variants.{Refused}
 use Rattle.judge.specs.declared.Judged.{Judged}
-use Rattle.judge.specs.Refusal.{refusalOf}
+use Rattle.judge.specs.Refusal.{unjudged, refusalOf}
 use Rattle.judge.specs.Judge.{judged, noted, meterOf, byPassage, judgeOf}
 
 -- "call refusals .. change nothing"
@@ -53,3 +55,14 @@ units-kept g port time octets dropped = refl
 -- elapsed is since the meter's own time, not the last time
 pub own-time : (image : List ℕ) (g : Ledger) (m : ℕ) → meterOf image g m .since ≡ getD (g .since) m 0
 own-time image g m = refl
+
+-- a buffer's rest has no part in it: two buffers that are both long enough, or both too short, with one image, give one outcome
+pub same-judgement : (a b : List ℕ) → tooShort a ≡ tooShort b → imageIn a ≡ imageIn b → (g : Ledger) (port time : ℕ) (frame : List ℕ)
+    → judgeOf a g port time frame ≡ judgeOf b g port time frame
+unfolding judgeOf refusalOf
+same-judgement a b long image g port time frame =
+    ap (λ (n : ℕ). told (imageIn a) (cond (eqb n 0) (unjudged g port time frame) n)) (same-standing a b long image g)
+    ∙ ap (λ (i : List ℕ). told i (cond (eqb (standing b g) 0) (unjudged g port time frame) (standing b g))) image
+  where
+    told : List ℕ → ℕ → Judged
+    told i n = cond (eqb n 0) (byPassage i g port time frame (passageOf i port frame)) (judged (Refused n) g)

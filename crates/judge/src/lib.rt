@@ -19,6 +19,11 @@ ghost use Rattle.judge.specs.Refusal.{mistimed, unjudged, refusalOf};
 ghost use Rattle.judge.specs.Judge.{meterOf, noted, charged, settledBy, settledWith, settledOf, byPassage, judgeOf, Judges};
 ghost use Rattle.judge.specs.Laws.{Countable};
 
+// 35 and 38: the most bytes of a frame, and the frames of a port at which no more are counted.
+const MOST_BYTES: usize = 4096;
+
+const MOST_FRAMES: u64 = 4294967295;
+
 pub enum Verdict {
     Refused(u32),
     Drop(u32),
@@ -50,10 +55,10 @@ fn unjudged(ledger: Ledger, port: usize, time: u64, frame: &[u8]) -> u32
     if mistimed(ledger.last, time) {
         return 34;
     }
-    if 4096 < frame.len() {
+    if MOST_BYTES < frame.len() {
         return 35;
     }
-    if 4294967295 <= ledger.frames[port] {
+    if MOST_FRAMES <= ledger.frames[port] {
         return 38;
     }
     0

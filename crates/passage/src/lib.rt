@@ -95,7 +95,7 @@ fn policer_of(port: usize, priority: u64, destination: u64) -> usize
     requires { ⌜ (port < 5) × (priority < 8) ⌝ }
     ensures { λ r. ⌜ r ≡ policerOf port priority destination ⌝ }
 {
-    if destination == 0xFFFFFFFFFFFF {
+    if destination == frame::BROADCAST {
         return 40 + port;
     }
     8 * port + priority as usize

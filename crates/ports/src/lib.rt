@@ -37,7 +37,7 @@ fn wanted(image: &[u32], port: usize, vlan: u64, entry: usize, destination: u64)
     requires { ⌜ (port < 5) × (entry < countOf (imageIn (now image)) 2) ⌝ }
     ensures { λ r. ⌜ r ≡ wantedOf (imageIn (now (image .entry))) port vlan entry destination ⌝ }
 {
-    if destination == 0xFFFFFFFFFFFF {
+    if destination == frame::BROADCAST {
         return image::forwarding::bc_domain(image, port) & image::vlan::vlan_bc(image, entry);
     }
     towards(

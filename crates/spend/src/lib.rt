@@ -4,6 +4,11 @@ ghost use Prim.Native.Nat.{_+_, _-_, _*_, _<_, _≤_, min};
 ghost use Rattle.spend.specs.Meter.{refilled, cost};
 ghost use Rattle.spend.specs.Spend.{creditAt, paidOf, spentOf, countedOf};
 
+// Millionths of a bit in an octet, and those that a RATE of 1 gains in a µs.
+const MILLIONTHS: u64 = 8000000;
+
+const STEP: u64 = 15625;
+
 // A meter: SMAX and RATE of its entry, its credit in millionths of a bit, and its time.
 pub struct Meter {
     pub smax: u64,
@@ -59,10 +64,10 @@ fn credit_at(m: Meter, now: u64) -> u64
     ensures { λ r. ⌜ r ≡ creditAt m now ⌝ }
 {
     grown(
-        m.smax * 8000000,
+        m.smax * MILLIONTHS,
         m.credit,
         elapsed(now, m.since),
-        m.rate * 15625,
+        m.rate * STEP,
     )
 }
 
@@ -100,7 +105,7 @@ pub fn spend(m: Meter, now: u64, units: u64, octets: u64, ports: u64) -> Spent
     ensures { λ r. ⌜ r ≡ spentOf m now units octets ports ⌝ }
 {
     let credit = credit_at(m, now);
-    if credit < octets * 8000000 {
+    if credit < octets * MILLIONTHS {
         return Spent {
             drop: 9,
             credit,
@@ -108,7 +113,7 @@ pub fn spend(m: Meter, now: u64, units: u64, octets: u64, ports: u64) -> Spent
             units,
         };
     }
-    paid(credit - octets * 8000000, now, units, octets, ports)
+    paid(credit - octets * MILLIONTHS, now, units, octets, ports)
 }
 
 // What a verdict adds to its port's counts.

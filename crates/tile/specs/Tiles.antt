@@ -65,3 +65,13 @@ one-answer buffer g port r s a b = a .whole ∙ sym (b .whole)
 -- the bits of a share, and a NaN's usual pattern for what no share is
 abbrev pub bitsOf : Float → ℕ
 bitsOf x = cond (isNan x) 0x7FF8000000000000 (toBits binary64 x)
+
+-- a buffer's rest has no part in it
+pub same-tile : (a b : List ℕ) → tooShort a ≡ tooShort b → imageIn a ≡ imageIn b → (g : Ledger) (port : ℕ) → askedOf a g port ≡ askedOf b g port
+unfolding askedOf
+same-tile a b long image g port =
+    ap (λ (t : Bool). told t (imageIn a)) long ∙ ap (told (tooShort b)) image
+  where
+    told : Bool → List ℕ → Asked
+    told t i =
+        cond t (Refused 31) (cond (ltb 4 port) (Refused 33) (cond (notLoaded i) (Shown NotLoaded) (cond (outOfRange i g) (Refused 39) (Shown (tileAt g port)))))
