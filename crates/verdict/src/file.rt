@@ -1,6 +1,5 @@
 // The stream's file: counted first, then sent in writes.
 use stream::Answer;
-
 ghost use Prim.Native.Nat.{_<_};
 ghost use Rattle.io.specs.Counts.{Counts};
 
@@ -88,7 +87,8 @@ fn word(bytes: &[u8], i: usize) -> u32 {
     if bytes.len() - 4 < i {
         return 0;
     }
-    ((octet(bytes[i]) * 256 + octet(bytes[i + 1])) * 256 + octet(bytes[i + 2])) * 256 + octet(bytes[i + 3])
+    ((octet(bytes[i]) * 256 + octet(bytes[i + 1])) * 256 + octet(bytes[i + 2])) * 256
+        + octet(bytes[i + 3])
 }
 
 // The words of a write.
@@ -106,11 +106,7 @@ fn words_of(bytes: &[u8]) -> [u32; 64] {
 fn at_most(n: usize, words: &[u32]) -> usize
     ensures { λ r. ⌜ Counts r (now (words .entry)) ⌝ }
 {
-    if n <= words.len() {
-        n
-    } else {
-        words.len()
-    }
+    if n <= words.len() { n } else { words.len() }
 }
 
 // What a write has to say: its number, or that more is wanted.

@@ -1,8 +1,10 @@
 // The list of records: read whole, walked with one ledger, then the tiles.
 use crate::file;
 use crate::print;
-use ledger::{Answer, Ledger};
-use records::{Record, Refusal};
+use ledger::Answer;
+use ledger::Ledger;
+use records::Record;
+use records::Refusal;
 
 // One record more than the most bytes, so that a list that is too long shows.
 const MOST: usize = 16385;
@@ -14,7 +16,12 @@ fn tile_of(image: &[u32], ledger: Ledger, port: usize) {
     }
     let frames = ledger.frames;
     let drops = ledger.drops;
-    print::tile_line(port as u64, frames[port], drops[port], tile::tile(image, ledger, port));
+    print::tile_line(
+        port as u64,
+        frames[port],
+        drops[port],
+        tile::tile(image, ledger, port),
+    );
 }
 
 fn tiles(image: &[u32], ledger: Ledger) {
@@ -36,7 +43,14 @@ fn release(image: &[u32], ledger: Ledger, record: u64, partition: usize) -> Ledg
     next
 }
 
-fn frame(image: &[u32], ledger: Ledger, record: u64, port: usize, time: u64, bytes: &[u8]) -> Ledger {
+fn frame(
+    image: &[u32],
+    ledger: Ledger,
+    record: u64,
+    port: usize,
+    time: u64,
+    bytes: &[u8],
+) -> Ledger {
     let judged = judge::judge(image, ledger, port, time, bytes);
     let verdict = judged.verdict;
     print::verdict(record, verdict);

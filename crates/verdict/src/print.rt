@@ -2,7 +2,8 @@
 use judge::Verdict;
 use libc::STDOUT_FILENO;
 use ports::Sending;
-use tile::shares::{Asked, Tile};
+use tile::shares::Asked;
+use tile::shares::Tile;
 
 pub fn text(line: &[u8]) {
     io::write_all(STDOUT_FILENO, line);
