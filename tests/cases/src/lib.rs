@@ -9,6 +9,7 @@ pub mod boundary_streams;
 pub mod build;
 pub mod case;
 pub mod check;
+pub mod compare;
 pub mod damage;
 pub mod edit;
 pub mod files;

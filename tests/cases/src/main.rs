@@ -1,9 +1,9 @@
-//! `cases check [SEED] [COUNT]` and `cases write DIR [SEED] [COUNT]`.
+//! `cases check [SEED] [COUNT]`, `cases write DIR [SEED] [COUNT]` and `cases compare PROGRAM [SEED] [COUNT]`.
 
 use std::path::Path;
 use std::process::ExitCode;
 
-use cases::{check, files};
+use cases::{check, compare, files};
 
 const SEED: u64 = 1105;
 const CHECK_ROUNDS: usize = 400;
@@ -37,8 +37,26 @@ fn main() -> ExitCode {
                 }
             }
         }
+        (Some("compare"), Some(program)) => {
+            let (seed, many) = (number(2, SEED), number(3, WRITTEN as u64) as usize);
+            match compare::compare(Path::new(program), seed, many) {
+                Ok(compared) => {
+                    println!("seed {seed}");
+                    println!("{} passed, {} failed", compared.agreed, compared.differing.len());
+                    if compared.differing.is_empty() {
+                        ExitCode::SUCCESS
+                    } else {
+                        ExitCode::FAILURE
+                    }
+                }
+                Err(error) => {
+                    println!("cannot compare: {error}");
+                    ExitCode::FAILURE
+                }
+            }
+        }
         _ => {
-            println!("cases check [SEED] [COUNT] | cases write DIR [SEED] [COUNT]");
+            println!("cases check [SEED] [COUNT] | cases write DIR [SEED] [COUNT] | cases compare PROGRAM [SEED] [COUNT]");
             ExitCode::FAILURE
         }
     }
