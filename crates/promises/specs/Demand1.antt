@@ -1,0 +1,92 @@
+-- Demand 1. No entry has a `requires`, so each always ends in an answer. What a refusal leaves: zero or untouched; and what is not loaded is not judged.
+use mathlib.Core.Path.{_≡_, refl, sym, _∙_, ap, subst}
+use mathlib.Core.Bool.{Bool, true, false, cond}
+use mathlib.Core.List.{List, [], _∷_, _++_}
+use Prim.Native.Nat.{ℕ, _<_, _≤_}
+use lib.Dec.{ltb, eqb}
+use lib.ListN.{length, drop, replicate}
+use native.Mathlib.Nat.{le-of-suc-le-suc}
+use borrow.Author.Tests.{ne-eqb, le-ltb, lt-ltb}
+use Rattle.laws.specs.Chain.{hit, pass}
+use Rattle.image.specs.Layout.{imageWords, imageIn, imageOf}
+use Rattle.image.specs.Loaded.{tooShort, notLoaded}
+use Rattle.rules.specs.Rules.{ruled}
+use Rattle.stream.specs.Paper.{Framed, refused, cut, passed, ended, outcomeOf, framed, loaded, refusedWith, numbered, loadedWords, into, asFound}
+use Rattle.stream.specs.Machine.{wrote, untouched, damaged, outside}
+use Rattle.stream.specs.declared.Load.{Load}
+use Rattle.ledger.specs.declared.Ledger.{Ledger}
+use Rattle.ledger.specs.Range.{standing}
+use Rattle.ledger.specs.Release.{releaseRefusal, released}
+use Rattle.tile.specs.declared.shares.Tile.the-variants.{NotLoaded}
+use Rattle.tile.specs.declared.shares.Asked.the-variants.{Shown}
+use Rattle.tile.specs.Tiles.{askedOf}
+use Rattle.judge.specs.declared.Verdict.the-variants.{Refused}
+use Rattle.judge.specs.Refusal.{refusalOf}
+use Rattle.judge.specs.Judge.{judged, judgeOf}
+use Rattle.judge.specs.Proved.{refused-unchanged}
+
+-- "A refused load leaves the lent image all zero"
+zero-unless-loaded : (f : Framed) → (outcomeOf f .number ≡ 0 → ⊥) → outcomeOf f .image ≡ replicate imageWords 0
+zero-unless-loaded (refused n) h = refl
+zero-unless-loaded cut h = refl
+zero-unless-loaded (passed lists) h = go (eqb (ruled (imageOf lists)) 0) h
+  where
+    go : (t : Bool) → (cond t (record { number = 0; image = imageOf lists }) (refusedWith (ruled (imageOf lists))) .number ≡ 0 → ⊥)
+        → cond t (record { number = 0; image = imageOf lists }) (refusedWith (ruled (imageOf lists))) .image ≡ replicate imageWords 0
+    go true ne = absurd (ne refl)
+    go false ne = refl
+
+pub refused-load-is-zero : (words : List ℕ) → (loaded words .number ≡ 0 → ⊥) → loaded words .image ≡ replicate imageWords 0
+refused-load-is-zero words h = zero-unless-loaded (framed words) h
+
+-- "or untouched where document 01 says so": 31
+pub short-buffer-untouched : (buffer words : List ℕ) → tooShort buffer ≡ true → loadedWords buffer words ≡ asFound 31 buffer
+unfolding loadedWords
+short-buffer-untouched buffer words h = sym (hit (tooShort buffer) (tooShort buffer) _ _ refl h)
+
+-- 30 and 32 of a write
+pub damaged-load-untouched : (l : Load) (buffer words : List ℕ) → tooShort buffer ≡ false → damaged l (imageIn buffer) ≡ true → wrote l buffer words ≡ untouched 30 l buffer
+unfolding wrote
+damaged-load-untouched l buffer words h d =
+    sym (pass (tooShort buffer) (tooShort buffer) _ _ _ refl h (hit (damaged l (imageIn buffer)) (damaged l (imageIn buffer)) _ _ refl d))
+
+pub empty-or-long-write-untouched : (l : Load) (buffer words : List ℕ) → tooShort buffer ≡ false → damaged l (imageIn buffer) ≡ false → outside (length words) ≡ true
+    → wrote l buffer words ≡ untouched 32 l buffer
+unfolding wrote
+empty-or-long-write-untouched l buffer words h d o =
+    sym
+    (pass (tooShort buffer) (tooShort buffer) _ _ _ refl h
+    (pass (damaged l (imageIn buffer)) (damaged l (imageIn buffer)) _ _ _ refl d (hit (outside (length words)) (outside (length words)) _ _ refl o)))
+
+-- "a refused frame changes nothing"
+pub refused-frame-changes-nothing : (buffer : List ℕ) (g : Ledger) (port time : ℕ) (frame : List ℕ) → (refusalOf buffer g port time frame ≡ 0 → ⊥)
+    → judgeOf buffer g port time frame ≡ judged (Refused (refusalOf buffer g port time frame)) g
+refused-frame-changes-nothing = refused-unchanged
+
+pub refused-release-changes-nothing : (buffer : List ℕ) (g : Ledger) (partition : ℕ) → (releaseRefusal buffer g partition ≡ 0 → ⊥)
+    → cond (eqb (releaseRefusal buffer g partition) 0) (released g partition) g ≡ g
+refused-release-changes-nothing buffer g partition h = ap (λ (t : Bool). cond t (released g partition) g) (ne-eqb (releaseRefusal buffer g partition) 0 h)
+
+stands-30 : (buffer : List ℕ) (g : Ledger) → tooShort buffer ≡ false → notLoaded (imageIn buffer) ≡ true → standing buffer g ≡ 30
+unfolding standing
+stands-30 buffer g h n =
+    sym (pass (tooShort buffer) (tooShort buffer) 30 31 _ refl h (hit (notLoaded (imageIn buffer)) (notLoaded (imageIn buffer)) 30 _ refl n))
+
+-- "An image that isn't loaded is never judged": without the mark, with a count above its limit, or with counts that rule 20 refuses, 30
+pub not-loaded-not-judged : (buffer : List ℕ) (g : Ledger) (port time : ℕ) (frame : List ℕ) → tooShort buffer ≡ false → notLoaded (imageIn buffer) ≡ true
+    → refusalOf buffer g port time frame ≡ 30
+unfolding refusalOf
+not-loaded-not-judged buffer g port time frame h n = rw (stands-30 buffer g h n) refl
+
+pub not-loaded-not-released : (buffer : List ℕ) (g : Ledger) (partition : ℕ) → tooShort buffer ≡ false → notLoaded (imageIn buffer) ≡ true
+    → releaseRefusal buffer g partition ≡ 30
+unfolding releaseRefusal
+not-loaded-not-released buffer g partition h n = rw (stands-30 buffer g h n) refl
+
+-- and its tiles say so
+pub not-loaded-tiles : (buffer : List ℕ) (g : Ledger) (port : ℕ) → port < 5 → tooShort buffer ≡ false → notLoaded (imageIn buffer) ≡ true → askedOf buffer g port ≡ Shown NotLoaded
+unfolding askedOf
+not-loaded-tiles buffer g port p h n =
+    sym
+    (pass (tooShort buffer) (tooShort buffer) _ _ _ refl h
+    (pass (ltb 4 port) (ltb 4 port) _ _ _ refl (le-ltb 4 port (le-of-suc-le-suc p)) (hit (notLoaded (imageIn buffer)) (notLoaded (imageIn buffer)) _ _ refl n)))

@@ -1,0 +1,47 @@
+-- Each entry's outcome is one: any two outcomes that its promise permits are equal.
+use mathlib.Core.Path.{_≡_, refl, sym, _∙_, ap}
+use mathlib.Core.List.{List}
+use Prim.Native.Nat.{ℕ}
+use Rattle.stream.specs.Paper.{Whole}
+use Rattle.stream.specs.declared.Answer.{Answer}
+use Rattle.stream.specs.declared.Load.{Load}
+use Rattle.loader.specs.Leaves.{Writes, Ends}
+use Rattle.loader.specs.declared.Wrote.{Wrote}
+use Rattle.ledger.specs.declared.Ledger.{Ledger}
+use Rattle.ledger.specs.declared.Outcome.{Outcome}
+use Rattle.ledger.specs.Fresh.{Freshened}
+use Rattle.ledger.specs.Release.{Released}
+use Rattle.ledger.specs.Proved.{one-fresh, one-release}
+use Rattle.judge.specs.declared.Judged.{Judged}
+use Rattle.judge.specs.Judge.{Judges}
+use Rattle.judge.specs.Laws.{one-outcome}
+use Rattle.tile.specs.declared.shares.Asked.{Asked}
+use Rattle.tile.specs.Tiles.{Tiled, one-answer}
+
+-- `write`: the answer, the load state and the whole buffer
+pub write-once : (load : Load) (buffer words : List ℕ) (r s : Wrote) (a b : List ℕ) → Writes load buffer words r a → Writes load buffer words s b → (r ≡ s) × (a ≡ b)
+write-once load buffer words r s a b p q = (
+  ap (λ (x : Answer). record { answer = x; load = r .load }) (p .answer ∙ sym (q .answer))
+      ∙ ap (λ (x : Load). record { answer = s .answer; load = x }) (p .state ∙ sym (q .state)),
+  p .kept ∙ sym (q .kept),
+)
+
+-- `load_words` and `load_bytes`: the answer and the whole buffer
+pub load-once : (w : Whole) (r s : Answer) (a b : List ℕ) → Ends w r a → Ends w s b → (r ≡ s) × (a ≡ b)
+load-once w r s a b p q = (p .told ∙ sym (q .told), p .kept ∙ sym (q .kept))
+
+-- `fresh_ledger`
+pub fresh-once : (buffer : List ℕ) (r s : Outcome) → Freshened buffer r → Freshened buffer s → r ≡ s
+fresh-once = one-fresh
+
+-- `release`
+pub release-once : (buffer : List ℕ) (g : Ledger) (partition : ℕ) (r s : Outcome) → Released buffer g partition r → Released buffer g partition s → r ≡ s
+release-once = one-release
+
+-- `judge`
+pub judge-once : (buffer : List ℕ) (g : Ledger) (port time : ℕ) (frame : List ℕ) (r s : Judged) → Judges buffer g port time frame r → Judges buffer g port time frame s → r ≡ s
+judge-once = one-outcome
+
+-- `tile`
+pub tile-once : (buffer : List ℕ) (g : Ledger) (port : ℕ) (r s : Asked) → Tiled buffer g port r → Tiled buffer g port s → r ≡ s
+tile-once = one-answer
