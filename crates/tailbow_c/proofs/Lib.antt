@@ -1,0 +1,2 @@
+-- Laws that several of the entries' proofs cite.
+pub mod Laws
