@@ -1,4 +1,6 @@
 // The ledger, lent by `&mut` and brought up to date by each record: thin functions over the steps by value, each proved by a walk by hand.
+// A plain-parameter function above each serves every caller that holds its ledger by value, and needs no walk.
+use judge::Judged;
 use judge::Verdict;
 use ledger::Answer;
 use ledger::Ledger;
@@ -21,4 +23,13 @@ pub fn release_lent(image: &[u32], g: &mut Ledger, partition: usize) -> Answer
     let o = ledger::units::release(image, *g, partition);
     *g = o.ledger;
     o.answer
+}
+
+// The verdict on a frame and the ledger afterwards, by a ledger of one's own that is lent.
+pub fn judge_once(image: &[u32], ledger: Ledger, port: usize, time: u64, frame: &[u8]) -> Judged
+    ensures { λ r. ⌜ Judges (now (image .entry)) ledger port time (now (frame .entry)) r ⌝ }
+{
+    let mut g = ledger;
+    let verdict = judge_lent(image, &mut g, port, time, frame);
+    Judged { verdict, ledger: g }
 }
