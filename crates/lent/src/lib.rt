@@ -4,6 +4,7 @@ use judge::Judged;
 use judge::Verdict;
 use ledger::Answer;
 use ledger::Ledger;
+use ledger::Outcome;
 ghost use Rattle.judge.specs.Judge.{judged, Judges};
 ghost use Rattle.ledger.specs.Release.{Released};
 
@@ -32,4 +33,13 @@ pub fn judge_once(image: &[u32], ledger: Ledger, port: usize, time: u64, frame: 
     let mut g = ledger;
     let verdict = judge_lent(image, &mut g, port, time, frame);
     Judged { verdict, ledger: g }
+}
+
+// The answer to a release and the ledger afterwards, likewise.
+pub fn release_once(image: &[u32], ledger: Ledger, partition: usize) -> Outcome
+    ensures { λ r. ⌜ Released (now (image .entry)) ledger partition r ⌝ }
+{
+    let mut g = ledger;
+    let answer = release_lent(image, &mut g, partition);
+    Outcome { answer, ledger: g }
 }
