@@ -33,7 +33,7 @@ fn tiles(image: &[u32], ledger: Ledger) {
 }
 
 fn release(image: &[u32], ledger: Ledger, record: u64, partition: usize) -> Ledger {
-    let done = ledger::units::release(image, ledger, partition);
+    let done = lent::release_once(image, ledger, partition);
     let answer = done.answer;
     match answer {
         Answer::Refused(n) => print::refused(n as u64),
@@ -51,7 +51,7 @@ fn frame(
     time: u64,
     bytes: &[u8],
 ) -> Ledger {
-    let judged = judge::judge(image, ledger, port, time, bytes);
+    let judged = lent::judge_once(image, ledger, port, time, bytes);
     let verdict = judged.verdict;
     print::verdict(record, verdict);
     let next = judged.ledger;
