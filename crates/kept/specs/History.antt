@@ -27,7 +27,7 @@ abbrev pub after : List ℕ → Ledger → List Event → Ledger
 after buffer g [] = g
 after buffer g (e ∷ es) = after buffer (step buffer g e) es
 
-step-kept : (buffer : List ℕ) (g : Ledger) (e : Event) → Kept (imageIn buffer) g → Kept (imageIn buffer) (step buffer g e)
+pub step-kept : (buffer : List ℕ) (g : Ledger) (e : Event) → Kept (imageIn buffer) g → Kept (imageIn buffer) (step buffer g e)
 step-kept buffer g (frame port time bytes) k = judge-kept buffer g port time bytes k
 step-kept buffer g (release partition) k = releases-kept buffer g partition k
 
