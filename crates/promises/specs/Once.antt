@@ -17,6 +17,9 @@ use Rattle.judge.specs.Judge.{Judges}
 use Rattle.judge.specs.Laws.{one-outcome}
 use Rattle.tile.specs.declared.shares.Asked.{Asked}
 use Rattle.tile.specs.Tiles.{Tiled, one-answer}
+use Rattle.tailbow_c.specs.declared.FlatLoad.{FlatLoad}
+use Rattle.tailbow_c.specs.declared.FlatWrote.{FlatWrote}
+use Rattle.tailbow_c.specs.Calls.{WritesFlat, EndsFlat}
 
 -- `write`: the answer, the load state and the whole buffer
 pub write-once : (load : Load) (buffer words : List ℕ) (r s : Wrote) (a b : List ℕ) → Writes load buffer words r a → Writes load buffer words s b → (r ≡ s) × (a ≡ b)
@@ -45,3 +48,16 @@ judge-once = one-outcome
 -- `tile`
 pub tile-once : (buffer : List ℕ) (g : Ledger) (port : ℕ) (r s : Asked) → Tiled buffer g port r → Tiled buffer g port s → r ≡ s
 tile-once = one-answer
+
+-- `tailbow_write`: the answer's number, the load state's numbers and the whole buffer
+pub flat-write-once : (f : FlatLoad) (buffer words : List ℕ) (r s : FlatWrote) (a b : List ℕ) → WritesFlat f buffer words r a → WritesFlat f buffer words s b
+    → (r ≡ s) × (a ≡ b)
+flat-write-once f buffer words r s a b p q = (
+  ap (λ (n : ℕ). record { answer = n; load = r .load }) (p .answer ∙ sym (q .answer))
+      ∙ ap (λ (l : FlatLoad). record { answer = s .answer; load = l }) (p .state ∙ sym (q .state)),
+  p .kept ∙ sym (q .kept),
+)
+
+-- `tailbow_load_words` and `tailbow_load_bytes`
+pub flat-load-once : (w : Whole) (r s : ℕ) (a b : List ℕ) → EndsFlat w r a → EndsFlat w s b → (r ≡ s) × (a ≡ b)
+flat-load-once w r s a b p q = (p .told ∙ sym (q .told), p .kept ∙ sym (q .kept))
