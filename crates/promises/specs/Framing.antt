@@ -1,0 +1,310 @@
+-- Demand 2, of framing: each number has a predicate of its own at a block, written from the paper's row and without the order; a stream is told n
+-- exactly when n's holds at a block that it reaches, and none of those before it does there or at any block before.
+use mathlib.Core.Path.{_≡_, refl, sym, _∙_, ap, subst}
+use mathlib.Core.Bool.{Bool, true, false, cond, not, _&&_, _||_, true≢false}
+use mathlib.Core.List.{List, [], _∷_, _++_}
+use Prim.Native.Nat.{ℕ, zero, suc, _+_, _-_, _/_, _%_, _≤_}
+use native.Mathlib.Nat.{not-suc-le-zero, le-refl}
+use native.Mathlib.Omega.{arith}
+use lib.Dec.{ltb, eqb}
+use lib.ListN.{length, getD, take, drop, length-drop}
+use borrow.Author.Tests.{eqb-true, eqb-false, eq-eqb, ne-eqb}
+use Rattle.crc.specs.Crc.{checksum}
+use Rattle.image.specs.Rows.{sizeOf, mostOf}
+use Rattle.image.specs.Tables.{kindOf}
+use Rattle.stream.specs.Header.{device, idOf, lengthOf, wrong}
+use Rattle.stream.specs.Paper.{Framed, refused, cut, passed, none, put, had, checked, blocks, framed}
+
+-- where a block begins: every word before it, what each table has, and the words from it on
+pub record Place : Type 0 where
+  pub before : List ℕ
+  pub lists : List (List ℕ)
+  pub words : List ℕ
+
+abbrev pub place : List ℕ → List (List ℕ) → List ℕ → Place
+place before lists words = record { before = before; lists = lists; words = words }
+
+-- ---- what stands at a place
+
+-- the three words of its header have come
+abbrev pub headed : List ℕ → Bool
+headed [] = false
+headed (a ∷ []) = false
+headed (a ∷ b ∷ []) = false
+headed (a ∷ b ∷ c ∷ rest) = true
+
+abbrev pub kindAt : Place → ℕ
+kindAt p = kindOf (idOf (getD (p .words) 0 0))
+
+abbrev pub lengthAt : Place → ℕ
+lengthAt p = lengthOf (getD (p .words) 1 0)
+
+-- an end block's length is 0
+abbrev pub isEnd : Place → Bool
+isEnd p = eqb (lengthAt p) 0
+
+abbrev pub isBlock : Place → Bool
+isBlock p = headed (p .words) && not (isEnd p)
+
+-- the ID is of a table that is carried
+abbrev pub carried : Place → Bool
+carried p = not (eqb (kindAt p) 10) && not (eqb (kindAt p) 9)
+
+abbrev pub dataAt : Place → List ℕ
+dataAt p = take (lengthAt p) (drop 3 (p .words))
+
+-- the data's checksum and what follows it
+abbrev pub behind : Place → List ℕ
+behind p = drop (lengthAt p) (drop 3 (p .words))
+
+abbrev pub some : List ℕ → Bool
+some [] = false
+some (w ∷ ws) = true
+
+-- ---- the paper's rows
+
+-- 2: "header checksum wrong"
+abbrev pub headerWrong : Place → Bool
+headerWrong p = isBlock p && not (eqb (getD (p .words) 2 0) (checksum (take 2 (p .words))))
+
+-- 3: "ID not in table 2 of 001"
+abbrev pub unknown : Place → Bool
+unknown p = isBlock p && eqb (kindAt p) 10
+
+-- 4: "ID in table 2, not in the table above"
+abbrev pub notCarried : Place → Bool
+notCarried p = isBlock p && eqb (kindAt p) 9
+
+-- 5: "length not whole entries"
+abbrev pub notWhole : Place → Bool
+notWhole p = isBlock p && (carried p && not (eqb (lengthAt p % sizeOf (kindAt p)) 0))
+
+-- 6: "the table would pass its most entries"
+abbrev pub tooMany : Place → Bool
+tooMany p = isBlock p && (carried p && ltb (mostOf (kindAt p)) (had (p .lists) (kindAt p) + lengthAt p / sizeOf (kindAt p)))
+
+-- 7: "data checksum wrong"
+abbrev pub dataWrong : Place → Bool
+dataWrong p = isBlock p && (some (behind p) && not (eqb (getD (behind p) 0 0) (checksum (dataAt p))))
+
+-- 8: "global checksum wrong"
+abbrev pub globalWrong : Place → Bool
+globalWrong p = headed (p .words) && (isEnd p && not (eqb (getD (p .words) 2 0) (checksum (p .before ++ take 2 (p .words)))))
+
+-- 10: "words end before the end block is complete": in the header, or in the data or before its checksum
+abbrev pub wordsEnd : Place → Bool
+wordsEnd p = not (headed (p .words)) || (isBlock p && not (some (behind p)))
+
+-- ---- their order
+
+pub record Test : Type 0 where
+  pub number : ℕ
+  pub holds : Bool
+
+abbrev test : ℕ → Bool → Test
+test n b = record { number = n; holds = b }
+
+-- "8 for an end block; else 2, 3, 4, 5, 6, and 7 after the data"
+abbrev pub tests : Place → List Test
+tests p =
+    test 8 (globalWrong p) ∷ test 2 (headerWrong p) ∷ test 3 (unknown p) ∷ test 4 (notCarried p) ∷ test 5 (notWhole p) ∷ test 6 (tooMany p)
+    ∷ test 7 (dataWrong p) ∷ test 10 (wordsEnd p) ∷ []
+
+-- n is the number of the first test that holds; 0 where none does
+pub data First : List Test → ℕ → Type 0 where
+  unbroken : First [] 0
+  this : {t : Test} {ts : List Test} → t .holds ≡ true → First (t ∷ ts) (t .number)
+  later : {t : Test} {ts : List Test} {n : ℕ} → t .holds ≡ false → First ts n → First (t ∷ ts) n
+
+abbrev firstOf : List Test → ℕ
+firstOf [] = 0
+firstOf (t ∷ ts) = cond (t .holds) (t .number) (firstOf ts)
+
+first-is : (ts : List Test) → First ts (firstOf ts)
+first-is [] = unbroken
+first-is (t ∷ ts) = go (first-is ts) (t .holds) refl
+  where
+    go : First ts (firstOf ts) → (b : Bool) → t .holds ≡ b → First (t ∷ ts) (cond b (t .number) (firstOf ts))
+    go rest true e = this e
+    go rest false e = later e rest
+
+only-first : {ts : List Test} {n : ℕ} → First ts n → n ≡ firstOf ts
+only-first unbroken = refl
+only-first (this {t} {ts} e) = sym (ap (λ (b : Bool). cond b (t .number) (firstOf ts)) e)
+only-first (later {t} {ts} {n} e f) = only-first f ∙ sym (ap (λ (b : Bool). cond b (t .number) (firstOf ts)) e)
+
+-- ---- from place to place
+
+-- the place behind a block, whose words now stand before it and whose entries follow on in its table
+abbrev pub onward : Place → Place
+onward p =
+    place
+    (p .before ++ (getD (p .words) 0 0 ∷ getD (p .words) 1 0 ∷ getD (p .words) 2 0 ∷ (dataAt p ++ (getD (behind p) 0 0 ∷ []))))
+    (put (p .lists) (kindAt p) (dataAt p))
+    (drop 1 (behind p))
+
+-- what a stream is told from a place on: the first number that holds there, or what a place behind it tells
+pub data Tells : Place → Framed → Type 0 where
+  breaks : {p : Place} {n : ℕ} → First (tests p) n → (n ≡ 0 → ⊥) → (n ≡ 10 → ⊥) → Tells p (refused n)
+  ends : {p : Place} → First (tests p) 10 → Tells p cut
+  whole : {p : Place} → First (tests p) 0 → isEnd p ≡ true → Tells p (passed (p .lists))
+  goes : {p : Place} {f : Framed} → First (tests p) 0 → isEnd p ≡ false → Tells (onward p) f → Tells p f
+
+abbrev refusedBy : ℕ → Framed
+refusedBy n = cond (eqb n 10) cut (refused n)
+
+abbrev from : ℕ → Place → Framed
+from turns p = blocks turns (p .before) (p .lists) (p .words)
+
+-- one block, by the first test that holds
+abbrev byFirst : ℕ → Place → ℕ → Framed
+byFirst turns p n = cond (eqb n 0) (cond (isEnd p) (passed (p .lists)) (from turns (onward p))) (refusedBy n)
+
+one-block : (turns : ℕ) (before : List ℕ) (lists : List (List ℕ)) (ws : List ℕ)
+    → blocks (suc turns) before lists ws ≡ byFirst turns (place before lists ws) (firstOf (tests (place before lists ws)))
+unfolding blocks
+one-block turns before lists [] = refl
+one-block turns before lists (h0 ∷ []) = refl
+one-block turns before lists (h0 ∷ h1 ∷ []) = refl
+one-block turns before lists (h0 ∷ h1 ∷ h2 ∷ rest) =
+    go (eqb n 0) (not (eqb h2 (checksum (before ++ (h0 ∷ h1 ∷ []))))) (not (eqb h2 (checksum (h0 ∷ h1 ∷ [])))) (eqb k 10) (eqb k 9) (not (eqb (n % sizeOf k) 0))
+    (ltb (mostOf k) (had lists k + n / sizeOf k))
+    (drop n rest)
+  where
+    n : ℕ
+    n = lengthOf h1
+
+    k : ℕ
+    k = kindOf (idOf h0)
+
+    ws : List ℕ
+    ws = take n rest
+
+    next : ℕ → List ℕ → Framed
+    next sum after = blocks turns (before ++ (h0 ∷ h1 ∷ h2 ∷ (ws ++ (sum ∷ [])))) (put lists k ws) after
+
+    wrongBy : Bool → Bool → Bool → Bool → ℕ
+    wrongBy k10 k9 w5 w6 = cond k10 3 (cond k9 4 (cond w5 5 (cond w6 6 0)))
+
+    told : Bool → Bool → Bool → Bool → Bool → Bool → Bool → List ℕ → ℕ
+    told z s8 s2 k10 k9 w5 w6 left =
+        cond (z && s8) 8
+        (cond (not z && s2) 2
+        (cond (not z && k10) 3
+        (cond (not z && k9) 4
+        (cond (not z && ((not k10 && not k9) && w5)) 5
+        (cond (not z && ((not k10 && not k9) && w6)) 6
+        (cond (not z && (some left && not (eqb (getD left 0 0) (checksum ws)))) 7 (cond (not z && not (some left)) 10 0)))))))
+
+    Same : Bool → Bool → Bool → Bool → Bool → Bool → Bool → List ℕ → Type 0
+    Same z s8 s2 k10 k9 w5 w6 left =
+        cond z (cond s8 (refused 8) (passed lists))
+        (cond s2 (refused 2) (cond (not (eqb (wrongBy k10 k9 w5 w6) 0)) (refused (wrongBy k10 k9 w5 w6)) (checked ws left next)))
+        ≡ cond (eqb (told z s8 s2 k10 k9 w5 w6 left) 0) (cond z (passed lists) (next (getD left 0 0) (drop 1 left))) (refusedBy (told z s8 s2 k10 k9 w5 w6 left))
+
+    seven : (sum : ℕ) (after : List ℕ) (t : Bool)
+        → cond t (refused 7) (next sum after) ≡ cond (eqb (cond t 7 0) 0) (next sum after) (refusedBy (cond t 7 0))
+    seven sum after true = refl
+    seven sum after false = refl
+
+    go : (z s8 s2 k10 k9 w5 w6 : Bool) (left : List ℕ) → Same z s8 s2 k10 k9 w5 w6 left
+    go true true s2 k10 k9 w5 w6 left = refl
+    go true false s2 k10 k9 w5 w6 left = refl
+    go false s8 true k10 k9 w5 w6 left = refl
+    go false s8 false true k9 w5 w6 left = refl
+    go false s8 false false true w5 w6 left = refl
+    go false s8 false false false true w6 left = refl
+    go false s8 false false false false true left = refl
+    go false s8 false false false false false [] = refl
+    go false s8 false false false false false (sum ∷ after) = seven sum after (not (eqb sum (checksum ws)))
+
+-- the words behind a block are fewer
+shorter : (ws : List ℕ) (n turns : ℕ) → length ws ≤ suc turns → length (drop 1 (drop n (drop 3 ws))) ≤ turns
+shorter ws n turns h =
+    subst (λ (x : ℕ). x ≤ turns) (sym (length-drop 1 (drop n (drop 3 ws)) ∙ ap (λ (x : ℕ). x - 1) (length-drop n (drop 3 ws) ∙ ap (λ (x : ℕ). x - n) (length-drop 3 ws))))
+    (less (length ws) n turns h)
+  where
+    less : (a b c : ℕ) → a ≤ suc c → a - 3 - b - 1 ≤ c
+    less a b c q = omega arith
+
+tells : (turns : ℕ) (before : List ℕ) (lists : List (List ℕ)) (ws : List ℕ) → length ws ≤ turns → Tells (place before lists ws) (blocks turns before lists ws)
+unfolding blocks
+tells zero before lists [] h = ends (first-is (tests (place before lists [])))
+tells zero before lists (w ∷ ws) h = absurd (not-suc-le-zero h)
+tells (suc turns) before lists ws h =
+    subst (Tells p) (sym (one-block turns before lists ws))
+    (by (firstOf (tests p)) (first-is (tests p)) (eqb (firstOf (tests p)) 0) refl
+    (tells turns (onward p .before) (onward p .lists) (onward p .words) (shorter ws (lengthAt p) turns h)))
+  where
+    p : Place
+    p = place before lists ws
+
+    end : First (tests p) 0 → (t : Bool) → isEnd p ≡ t → Tells (onward p) (from turns (onward p)) → Tells p (cond t (passed lists) (from turns (onward p)))
+    end f true e rest = whole f e
+    end f false e rest = goes f e rest
+
+    number : (n : ℕ) → First (tests p) n → (n ≡ 0 → ⊥) → (t : Bool) → eqb n 10 ≡ t → Tells p (cond t cut (refused n))
+    number n f z true e = ends (subst (First (tests p)) (eqb-true n 10 e) f)
+    number n f z false e = breaks f z (eqb-false n 10 e)
+
+    by : (n : ℕ) → First (tests p) n → (t : Bool) → eqb n 0 ≡ t → Tells (onward p) (from turns (onward p))
+        → Tells p (cond t (cond (isEnd p) (passed lists) (from turns (onward p))) (refusedBy n))
+    by n f true e rest = end (subst (First (tests p)) (eqb-true n 0 e) f) (isEnd p) refl rest
+    by n f false e rest = number n f (eqb-false n 0 e) (eqb n 10) refl
+
+-- ---- a place tells one thing
+same-first : {ts : List Test} {m n : ℕ} → First ts m → First ts n → m ≡ n
+same-first f g = only-first f ∙ sym (only-first g)
+
+ten : _≡_ {A = ℕ} 10 0 → ⊥
+ten = eqb-false 10 0 refl
+
+both : {b : Bool} → b ≡ true → b ≡ false → ⊥
+both e h = true≢false (sym e ∙ h)
+
+only : {p : Place} {f g : Framed} → Tells p f → Tells p g → f ≡ g
+only (breaks f z t) (breaks g y u) = ap refused (same-first f g)
+only (breaks f z t) (ends g) = absurd (t (same-first f g))
+only (breaks f z t) (whole g e) = absurd (z (same-first f g))
+only (breaks f z t) (goes g e r) = absurd (z (same-first f g))
+only (ends f) (breaks g y u) = absurd (u (same-first g f))
+only (ends f) (ends g) = refl
+only (ends f) (whole g e) = absurd (ten (same-first f g))
+only (ends f) (goes g e r) = absurd (ten (same-first f g))
+only (whole f d) (breaks g y u) = absurd (y (same-first g f))
+only (whole f d) (ends g) = absurd (ten (same-first g f))
+only (whole f d) (whole g e) = refl
+only (whole f d) (goes g e r) = absurd (both d e)
+only (goes f d q) (breaks g y u) = absurd (y (same-first g f))
+only (goes f d q) (ends g) = absurd (ten (same-first g f))
+only (goes f d q) (whole g e) = absurd (both e d)
+only (goes f d q) (goes g e r) = only q r
+
+-- ---- a whole stream
+
+-- "1: word 0 differs"; then the blocks, from the first place on
+pub data Told : List ℕ → Framed → Type 0 where
+  nothing : Told [] cut
+  differs : {w : ℕ} {ws : List ℕ} → (w ≡ device → ⊥) → Told (w ∷ ws) (refused 1)
+  begins : {w : ℕ} {ws : List ℕ} {f : Framed} → w ≡ device → Tells (place (w ∷ []) none ws) f → Told (w ∷ ws) f
+
+told : (words : List ℕ) → Told words (framed words)
+unfolding framed
+told [] = nothing
+told (w ∷ ws) = go (eqb w device) refl
+  where
+    go : (t : Bool) → eqb w device ≡ t → Told (w ∷ ws) (cond (not t) (refused 1) (blocks (length ws) (w ∷ []) none ws))
+    go true e = begins (eqb-true w device e) (tells (length ws) (w ∷ []) none ws (le-refl (length ws)))
+    go false e = differs (eqb-false w device e)
+
+only-told : {words : List ℕ} {f : Framed} → Told words f → f ≡ framed words
+unfolding framed
+only-told nothing = refl
+only-told (differs {w} {ws} ne) = sym (ap (λ (t : Bool). cond (not t) (refused 1) (blocks (length ws) (w ∷ []) none ws)) (ne-eqb w device ne))
+only-told (begins {w} {ws} {f} e t) =
+    only t (tells (length ws) (w ∷ []) none ws (le-refl (length ws)))
+    ∙ sym (ap (λ (b : Bool). cond (not b) (refused 1) (blocks (length ws) (w ∷ []) none ws)) (eq-eqb w device e))
+
+-- "refused exactly when a rule there is broken, and with the first one broken"
+pub first-broken-framing : (words : List ℕ) → Told words (framed words) × ((f : Framed) → Told words f → f ≡ framed words)
+first-broken-framing words = (told words, λ f t. only-told t)
