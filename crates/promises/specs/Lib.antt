@@ -5,5 +5,6 @@ pub mod Framing
 pub mod Units
 pub mod Rules
 pub mod Demand3
+pub mod Chains
 pub mod Table
 pub mod Once
