@@ -2,6 +2,7 @@
 pub mod Demand1
 pub mod Demand2
 pub mod Framing
+pub mod Given
 pub mod Units
 pub mod Rules
 pub mod Demand3
