@@ -1,4 +1,5 @@
 -- A ledger, a verdict and a tile as numbers, and what the entries for frames answer.
+use mathlib.Core.Path.{_≡_, refl}
 use mathlib.Core.Bool.{cond}
 use mathlib.Core.List.{List}
 use Prim.Native.Nat.{ℕ}
@@ -48,6 +49,13 @@ ledgerOf f =
       dropped = f .dropped;
       last = f .last;
     }
+
+-- every flat ledger is a ledger, and none is lost
+pub there : (g : Ledger) → ledgerOf (flatLedger g) ≡ g
+there g = refl
+
+pub back : (f : FlatLedger) → flatLedger (ledgerOf f) ≡ f
+back f = refl
 
 -- ---- a verdict: its kind, its number, its values
 abbrev pub unsent : ℕ → ℕ → FlatVerdict
