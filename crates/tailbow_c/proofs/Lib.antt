@@ -1,2 +1,3 @@
 -- Laws that several of the entries' proofs cite.
 pub mod Laws
+pub mod FrameLaws

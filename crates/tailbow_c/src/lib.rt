@@ -1,4 +1,6 @@
-// The loading entries for Rust and C: a load state as a struct of numbers, answers as numbers, buffers as pointer and length.
+// The entries for Rust and C: states, ledgers, verdicts and tiles as structs of numbers, answers as numbers, buffers as pointer and length.
+pub mod frames;
+
 use image::tables::Table;
 use stream::Answer;
 use stream::Load;

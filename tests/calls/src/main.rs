@@ -1,6 +1,8 @@
-//! `calls [SEED] [ROUNDS]`: the proved loading entries, linked, compared call by call with the second program.
+//! `calls [SEED] [ROUNDS]`: the proved entries, linked, compared call by call with the second program.
 
 mod entries;
+mod frame_entries;
+mod frames;
 mod pair;
 mod states;
 mod streams;
@@ -14,10 +16,11 @@ use cases::damage::{flip, one_entry_a_block, rearranged, refusal_of_flip};
 use cases::generate::{random_config, random_stream, Profile};
 use cases::rng::Rng;
 use cases::{boundaries, check, fixed};
-use reference::image::IMAGE_WORDS;
+use reference::image::{of_lists, IMAGE_WORDS};
 use reference::stream::{bytes_of, words_of};
 
 use entries::{FlatLoad, MORE};
+use frames::sequence;
 use pair::{load_bytes, load_words, Pair};
 use streams::{dirty, every_way, with_edits};
 use tally::{same, Tally};
@@ -47,6 +50,7 @@ fn main() -> ExitCode {
     named(&mut rng, &mut tally);
     for round in 0..rounds {
         generated(&mut rng, &mut tally, round);
+        judged(&mut rng, &mut tally, round);
     }
     if tally.finish() {
         ExitCode::SUCCESS
@@ -155,6 +159,19 @@ fn generated(rng: &mut Rng, tally: &mut Tally, round: u64) {
             every_way(rng, tally, &case.name, &case.stream);
         }
     }
+}
+
+/// Frames, releases and tiles on a configuration that loads; once in a while with full tables.
+fn judged(rng: &mut Rng, tally: &mut Tally, round: u64) {
+    let profile = match rng.below(4) {
+        _ if round % FULL_EVERY == 0 => Profile::Full,
+        0 => Profile::Valid,
+        _ => Profile::Near,
+    };
+    let mut image = of_lists(&random_config(rng, profile));
+    // The rest of the buffer has no part in it.
+    image.extend((0..rng.below(3)).map(|_| rng.word()).collect::<Vec<u32>>());
+    sequence(rng, tally, &format!("judged {round}"), &image);
 }
 
 fn profile(rng: &mut Rng, round: u64) -> Profile {

@@ -8,10 +8,16 @@ use crate::entries::MORE;
 const SHOWN: usize = 20;
 
 /// What each entry must have answered at least once.
-const ANSWERS: [(&str, &[u32]); 3] = [
+const ANSWERS: [(&str, &[u32]); 7] = [
     ("write", &[0, 1, 2, 3, 4, 5, 6, 7, 8, 20, 21, 22, 23, 24, 25, 30, 31, 32, MORE]),
     ("load_words", &[0, 1, 2, 3, 4, 5, 6, 7, 8, 10, 20, 21, 22, 23, 24, 25, 31]),
     ("load_bytes", &[0, 1, 2, 3, 4, 5, 6, 7, 8, 9, 10, 20, 21, 22, 23, 24, 25, 31]),
+    ("fresh_ledger", &[0, 30, 31]),
+    // 0 is sent, 1 to 11 are drops.
+    ("judge", &[0, 1, 2, 3, 4, 5, 6, 7, 8, 9, 10, 11, 30, 31, 33, 34, 35, 38, 39]),
+    ("release", &[0, 30, 31, 36, 37, 39]),
+    // 1 is not-loaded, 2 no-frames, 3 shares.
+    ("tile", &[1, 2, 3, 31, 33, 39]),
 ];
 
 #[derive(Default)]

@@ -1,0 +1,196 @@
+//! Ledgers, frames, releases and tiles: each call made twice, by the proved entry and by the second program.
+
+use cases::edit::{edited_image, edited_ledger};
+use cases::generate::{later, random_frame};
+use cases::rng::Rng;
+use reference::judge::{self, FrameAnswer, ReleaseAnswer};
+use reference::ledger::{self, Ledger, PortCounts, LAST_TIME};
+use reference::tile::{self, TileAnswer};
+
+use crate::frame_entries::{self as entries, FlatLedger, FlatOutcome, FlatTile, FlatVerdict};
+use crate::tally::{same, Tally};
+
+/// Calls in a sequence.
+const STEPS: usize = 32;
+
+/// A sequence of frames and releases on this image, and tiles; once in a while on an edited image or an edited ledger.
+pub fn sequence(rng: &mut Rng, tally: &mut Tally, name: &str, image: &[u32]) {
+    fresh(tally, name, &edited_image(rng, image));
+    let Some(mut ledger) = fresh(tally, name, image) else {
+        return;
+    };
+    for _ in 0..STEPS {
+        let other = rng.once_in(8).then(|| edited_image(rng, image));
+        let given = if rng.once_in(8) { edited_ledger(rng, image, &ledger) } else { ledger };
+        let lent = other.as_deref().unwrap_or(image);
+        let after = if rng.once_in(5) {
+            release(tally, name, lent, given, partition(rng))
+        } else {
+            let (port, time) = (port(rng), time(rng, ledger.last_time));
+            // The bytes stand at any address.
+            let start = rng.place(4);
+            let placed = [vec![0; start], bytes(rng)].concat();
+            frame(tally, name, lent, given, (port, time), &placed[start..])
+        };
+        if rng.once_in(4) {
+            show(tally, name, lent, given, port(rng));
+        }
+        // An edited ledger goes on where it is in range and has room.
+        if given == ledger || (!ledger::out_of_range(image, &after) && rng.once_in(4)) {
+            ledger = after;
+        }
+    }
+    for port in 0..6 {
+        show(tally, name, image, ledger, port);
+    }
+    let many = many_frames(rng, &ledger);
+    for port in 0..5 {
+        show(tally, name, image, many, port);
+        frame(tally, name, image, many, (port, many.last_time), &bytes(rng));
+    }
+}
+
+/// Counts in range that no judging reaches: past 2^53 a tile's shares round.
+fn many_frames(rng: &mut Rng, ledger: &Ledger) -> Ledger {
+    let mut many = *ledger;
+    for port in &mut many.ports {
+        let frames = rng.next() >> rng.between(3, 40);
+        let drops = rng.below(frames + 1);
+        let octets = 4 * frames + rng.below(frames + 1);
+        *port = PortCounts { frames, drops, octets, dropped_octets: 4 * drops };
+    }
+    many
+}
+
+/// Mostly one of the five.
+fn port(rng: &mut Rng) -> usize {
+    if rng.once_in(24) {
+        return rng.pick(&[5, 6, 255, 1 << 31, usize::MAX]);
+    }
+    rng.place(5)
+}
+
+/// Mostly one of the first, of which some is out.
+fn partition(rng: &mut Rng) -> usize {
+    match rng.below(8) {
+        0 => rng.pick(&[8, 9, 255, 1 << 31, usize::MAX]),
+        1..=4 => 0,
+        _ => rng.place(8),
+    }
+}
+
+fn time(rng: &mut Rng, last: u64) -> u64 {
+    if rng.once_in(24) {
+        return rng.pick(&[last.wrapping_sub(1), last, 0, LAST_TIME + 1, u64::MAX]);
+    }
+    later(rng, last)
+}
+
+/// A frame of any length up to the most and past it.
+fn bytes(rng: &mut Rng) -> Vec<u8> {
+    let mut frame = random_frame(rng);
+    if rng.once_in(24) {
+        frame.resize(rng.pick(&[0, 1, 11, 12, 13, 17, 18, 4095, 4096, 4097, 5000]), 0x5A);
+    }
+    frame
+}
+
+/// The second program's numbers are narrower; past them nothing changes.
+fn narrow(number: usize) -> u32 {
+    u32::try_from(number).unwrap_or(u32::MAX)
+}
+
+fn fresh(tally: &mut Tally, name: &str, image: &[u32]) -> Option<Ledger> {
+    let ours = entries::fresh_ledger(image);
+    let theirs = ledger::fresh_ledger(image);
+    let (number, expected) = match theirs {
+        Ok(ledger) => (0, ledger),
+        Err(number) => (number, ledger::no_ledger()),
+    };
+    let expected = FlatOutcome { number, ledger: flat(&expected) };
+    tally.call("fresh_ledger", ours.number, same(name, ours, expected));
+    theirs.ok()
+}
+
+fn frame(
+    tally: &mut Tally,
+    name: &str,
+    image: &[u32],
+    ledger: Ledger,
+    (port, time): (usize, u64),
+    frame: &[u8],
+) -> Ledger {
+    let ours = entries::judge(image, flat(&ledger), port, time, frame);
+    let (answer, after) = judge::judge(image, ledger, narrow(port), time, frame);
+    let compared = same(name, ours.verdict, flat_verdict(answer))
+        .and(same(name, ours.ledger, flat(&after)))
+        .map_err(|failure| format!("port {port}, time {time}, {frame:02X?}: {failure}"));
+    tally.call("judge", ours.verdict.number, compared);
+    after
+}
+
+fn release(
+    tally: &mut Tally,
+    name: &str,
+    image: &[u32],
+    ledger: Ledger,
+    partition: usize,
+) -> Ledger {
+    let ours = entries::release(image, flat(&ledger), partition);
+    let (answer, after) = judge::release(image, ledger, narrow(partition));
+    let number = match answer {
+        ReleaseAnswer::Refused(number) => number,
+        ReleaseAnswer::Released => 0,
+    };
+    let expected = FlatOutcome { number, ledger: flat(&after) };
+    let compared = same(name, ours, expected);
+    tally.call("release", ours.number, compared.map_err(|e| format!("{partition}: {e}")));
+    after
+}
+
+/// Counted by the refusal's number, or by the kind of what is shown.
+fn show(tally: &mut Tally, name: &str, image: &[u32], ledger: Ledger, port: usize) {
+    let ours = entries::tile(image, flat(&ledger), port);
+    let shown = |kind, number, share, octets| FlatTile { kind, number, share, octets };
+    let expected = match tile::tile(image, &ledger, narrow(port)) {
+        TileAnswer::Refused(number) => shown(0, number, 0, 0),
+        TileAnswer::NotLoaded => shown(1, 0, 0, 0),
+        TileAnswer::NoFrames => shown(2, 0, 0, 0),
+        TileAnswer::Shares { frames, octets } => shown(3, 0, frames.to_bits(), octets.to_bits()),
+    };
+    let compared = same(name, ours, expected);
+    let answer = if ours.kind == 0 { ours.number } else { ours.kind };
+    tally.call("tile", answer, compared.map_err(|failure| format!("port {port}: {failure}")));
+}
+
+/// A ledger's numbers.
+fn flat(ledger: &Ledger) -> FlatLedger {
+    FlatLedger {
+        units: ledger.units,
+        credit: ledger.meters.map(|meter| meter.credit),
+        since: ledger.meters.map(|meter| meter.time),
+        frames: ledger.ports.map(|port| port.frames),
+        drops: ledger.ports.map(|port| port.drops),
+        octets: ledger.ports.map(|port| port.octets),
+        dropped: ledger.ports.map(|port| port.dropped_octets),
+        last: ledger.last_time,
+    }
+}
+
+fn flat_verdict(answer: FrameAnswer) -> FlatVerdict {
+    let none =
+        FlatVerdict { kind: 0, number: 0, ports: 0, vlan: 0, priority: 0, tags: 0, queues: [0; 5] };
+    match answer {
+        FrameAnswer::Refused(number) => FlatVerdict { number, ..none },
+        FrameAnswer::Drop(number) => FlatVerdict { kind: 1, number, ..none },
+        FrameAnswer::Sent(sent) => FlatVerdict {
+            kind: 2,
+            number: 0,
+            ports: sent.ports.into(),
+            vlan: sent.vlan.into(),
+            priority: sent.prio.into(),
+            tags: sent.tags.into(),
+            queues: sent.queues.map(u64::from),
+        },
+    }
+}
