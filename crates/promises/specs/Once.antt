@@ -61,3 +61,7 @@ flat-write-once f buffer words r s a b p q = (
 -- `tailbow_load_words` and `tailbow_load_bytes`
 pub flat-load-once : (w : Whole) (r s : ℕ) (a b : List ℕ) → EndsFlat w r a → EndsFlat w s b → (r ≡ s) × (a ≡ b)
 flat-load-once w r s a b p q = (p .told ∙ sym (q .told), p .kept ∙ sym (q .kept))
+
+-- `tailbow_fresh_load`, `tailbow_fresh_ledger`, `tailbow_judge`, `tailbow_release` and `tailbow_tile`: each one's promise is that its outcome is this one
+pub equation-once : {A : Type 0} (outcome r s : A) → r ≡ outcome → s ≡ outcome → r ≡ s
+equation-once outcome r s a b = a ∙ sym b
