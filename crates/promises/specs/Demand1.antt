@@ -1,8 +1,8 @@
 -- Demand 1. No entry has a `requires`, so each always ends in an answer. What a refusal leaves: zero or untouched; and what is not loaded is not judged.
 use mathlib.Core.Path.{_≡_, refl, sym, _∙_, ap, subst}
-use mathlib.Core.Bool.{Bool, true, false, cond}
+use mathlib.Core.Bool.{Bool, true, false, cond, not}
 use mathlib.Core.List.{List, [], _∷_, _++_}
-use Prim.Native.Nat.{ℕ, _<_, _≤_}
+use Prim.Native.Nat.{ℕ, _%_, _<_, _≤_}
 use lib.Dec.{ltb, eqb}
 use lib.ListN.{length, drop, replicate}
 use native.Mathlib.Nat.{le-of-suc-le-suc}
@@ -11,11 +11,12 @@ use Rattle.laws.specs.Chain.{hit, pass}
 use Rattle.image.specs.Layout.{imageWords, imageIn, imageOf}
 use Rattle.image.specs.Loaded.{tooShort, notLoaded}
 use Rattle.rules.specs.Rules.{ruled}
-use Rattle.stream.specs.Paper.{Framed, refused, cut, passed, ended, outcomeOf, framed, loaded, refusedWith, numbered, loadedWords, into, asFound}
+use Rattle.stream.specs.Paper.{Framed, refused, cut, passed, ended, outcomeOf, framed, loaded, refusedWith, numbered, loadedWords, loadedBytes, into, asFound}
 use Rattle.stream.specs.Machine.{wrote, untouched, damaged, outside}
 use Rattle.stream.specs.declared.Load.{Load}
 use Rattle.ledger.specs.declared.Ledger.{Ledger}
 use Rattle.ledger.specs.Range.{standing}
+use Rattle.ledger.specs.Fresh.{freshOf, noLedger, unloaded}
 use Rattle.ledger.specs.Release.{releaseRefusal, released}
 use Rattle.tile.specs.declared.shares.Tile.the-variants.{NotLoaded}
 use Rattle.tile.specs.declared.shares.Asked.the-variants.{Shown}
@@ -43,6 +44,20 @@ refused-load-is-zero words h = zero-unless-loaded (framed words) h
 pub short-buffer-untouched : (buffer words : List ℕ) → tooShort buffer ≡ true → loadedWords buffer words ≡ asFound 31 buffer
 unfolding loadedWords
 short-buffer-untouched buffer words h = sym (hit (tooShort buffer) (tooShort buffer) _ _ refl h)
+
+pub short-buffer-untouched-by-bytes : (buffer bytes : List ℕ) → tooShort buffer ≡ true → loadedBytes buffer bytes ≡ asFound 31 buffer
+unfolding loadedBytes
+short-buffer-untouched-by-bytes buffer bytes h = sym (hit (tooShort buffer) (tooShort buffer) _ _ refl h)
+
+pub short-buffer-untouched-by-a-write : (l : Load) (buffer words : List ℕ) → tooShort buffer ≡ true → wrote l buffer words ≡ untouched 31 l buffer
+unfolding wrote
+short-buffer-untouched-by-a-write l buffer words h = sym (hit (tooShort buffer) (tooShort buffer) _ _ refl h)
+
+-- 9
+pub part-of-a-word-untouched : (buffer bytes : List ℕ) → tooShort buffer ≡ false → not (eqb (length bytes % 4) 0) ≡ true → loadedBytes buffer bytes ≡ asFound 9 buffer
+unfolding loadedBytes
+part-of-a-word-untouched buffer bytes h p =
+    sym (pass (tooShort buffer) (tooShort buffer) _ _ _ refl h (hit (not (eqb (length bytes % 4) 0)) (not (eqb (length bytes % 4) 0)) _ _ refl p))
 
 -- 30 and 32 of a write
 pub damaged-load-untouched : (l : Load) (buffer words : List ℕ) → tooShort buffer ≡ false → damaged l (imageIn buffer) ≡ true → wrote l buffer words ≡ untouched 30 l buffer
@@ -90,3 +105,7 @@ not-loaded-tiles buffer g port p h n =
     sym
     (pass (tooShort buffer) (tooShort buffer) _ _ _ refl h
     (pass (ltb 4 port) (ltb 4 port) _ _ _ refl (le-ltb 4 port (le-of-suc-le-suc p)) (hit (notLoaded (imageIn buffer)) (notLoaded (imageIn buffer)) _ _ refl n)))
+
+-- a refused fresh ledger is none, which 39 refuses under every image
+pub refused-ledger-is-none : (buffer : List ℕ) → (unloaded buffer ≡ 0 → ⊥) → cond (eqb (unloaded buffer) 0) (freshOf (imageIn buffer)) noLedger ≡ noLedger
+refused-ledger-is-none buffer h = ap (λ (t : Bool). cond t (freshOf (imageIn buffer)) noLedger) (ne-eqb (unloaded buffer) 0 h)
