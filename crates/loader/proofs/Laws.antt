@@ -3,12 +3,13 @@ use mathlib.Core.Path.{_≡_, refl, sym, _∙_, ap, subst}
 use mathlib.Core.Logic.{_≢_}
 use mathlib.Core.Bool.{Bool, true, false, cond, not, true≢false}
 use mathlib.Core.List.{List, [], _∷_, _++_}
-use Prim.Native.Nat.{ℕ, _+_, _-_, _*_, _/_, _%_, _<_, _≤_}
+use mathlib.Core.List.{append-assoc, append-nil}
+use Prim.Native.Nat.{ℕ, suc, _+_, _-_, _*_, _/_, _%_, _<_, _≤_}
 use native.Mathlib.Nat.{mul-comm, mul-le-mul-right, add-zero, not-suc-le-zero, le-of-eq}
 use lib.Dec.{leb, eqb, lit<}
 use native.Mathlib.Omega.{arith}
 use lib.ListN.{length, getD, set, take, drop, replicate, length-set, length-drop, take-append-drop}
-use lib.Seq.{sets, drop-set-lt, take-all, drop-drop}
+use lib.Seq.{sets, drop-set-lt, take-all, drop-drop, take-suc-set}
 use borrow.Author.Tests.{ltb-false, leb-true, lt-ltb, le-ltb, eq-eqb, ne-eqb}
 use Rattle.laws.specs.Scan.{every, every-at}
 use Rattle.laws.specs.Chain.{hit, pass, hit-eq, pass-eq, hit-ne, pass-ne}
@@ -24,7 +25,7 @@ use Rattle.rules.specs.Rules.{ruled}
 use Rattle.stream.specs.Header.{idOf, lengthOf, wrong}
 use Rattle.stream.specs.Machine.{Machine, at, told, idle, filling, cleared, refuse, hadIn, placeIn, finish, endedBy, begunBy, summed, filled, stepIn, step, run, beyond, fresh, begun, damaged, outside, untouched, opened, Written, written, wrote}
 use Rattle.stream.specs.Paper.{Whole, asFound, loadedWords, wordsOf, loadedBytes}
-use Rattle.stream.specs.Bytes.{wordAt, words-from, words-none}
+use Rattle.stream.specs.Bytes.{wordAt, words-from, words-none, words-split}
 use Rattle.stream.specs.Ends.{settledIn, settled, whole}
 use Rattle.stream.specs.declared.Phase.{Phase}
 use Rattle.stream.specs.declared.Phase.the-variants.{Device, Id, Length, Sum, Data, Told}
@@ -316,16 +317,41 @@ pub started : (l : Load) (b buffer : List ℕ) → l ≡ fresh → b ≡ cleared
 started l b buffer e q = ap (λ (x : Load). at x b) e ∙ ap (λ (x : List ℕ). at fresh x) q
 
 -- ---- a whole load of bytes
-pub bytes-on : (m n : Machine) (bytes : List ℕ) (i w : ℕ) → i + 4 ≤ length bytes → w ≡ wordAt bytes i → n ≡ step m w
-    → run n (wordsOf (drop (i + 4) bytes)) ≡ run m (wordsOf (drop i bytes))
-unfolding run
-bytes-on m n bytes i w h e q =
-    ap (λ (x : Machine). run x (wordsOf (drop (i + 4) bytes))) (q ∙ ap (λ (x : ℕ). step m x) e)
-    ∙ sym (ap (λ (l : List ℕ). run m l) (words-from bytes i h))
+-- one more word has been taken apart
+pub chunk-on : (bytes words : List ℕ) (k w : ℕ) → 4 * k + 4 ≤ length bytes → k < length words → w ≡ wordAt bytes (4 * k)
+    → take (k + 1) (set words k w) ++ wordsOf (drop (4 * (k + 1)) bytes) ≡ take k words ++ wordsOf (drop (4 * k) bytes)
+chunk-on bytes words k w h j e =
+    ap (λ (l : List ℕ). l ++ wordsOf (drop (4 * (k + 1)) bytes)) (ap (λ (n : ℕ). take n (set words k w)) one-more ∙ take-suc-set words k w j)
+    ∙ append-assoc (take k words) (w ∷ []) (wordsOf (drop (4 * (k + 1)) bytes))
+    ∙ ap (λ (l : List ℕ). take k words ++ l)
+    (ap (λ (x : ℕ). x ∷ wordsOf (drop (4 * (k + 1)) bytes)) e
+    ∙ ap (λ (i : ℕ). wordAt bytes (4 * k) ∷ wordsOf (drop i bytes)) next
+    ∙ sym (words-from bytes (4 * k) h))
+  where
+    one-more : k + 1 ≡ suc k
+    one-more = omega arith
 
-pub bytes-end : (m : Machine) (bytes : List ℕ) (i : ℕ) → length bytes < i + 4 → i ≤ length bytes → run m (wordsOf (drop i bytes)) ≡ m
-unfolding run
-bytes-end m bytes i h k = ap (λ (l : List ℕ). run m l) (words-none bytes i h k)
+    next : 4 * (k + 1) ≡ 4 * k + 4
+    next = omega arith
+
+pub chunk-end : (bytes words : List ℕ) (k : ℕ) → length bytes < 4 * k + 4 → 4 * k ≤ length bytes → take k words ++ wordsOf (drop (4 * k) bytes) ≡ take k words
+chunk-end bytes words k h j = ap (λ (l : List ℕ). take k words ++ l) (words-none bytes (4 * k) h j) ∙ append-nil (take k words)
+
+-- what a part of n from i on holds
+pub part-of : (ws : List ℕ) (i n : ℕ) → take (i + n - i) (drop i ws) ≡ take n (drop i ws)
+part-of ws i n = ap (λ (k : ℕ). take k (drop i ws)) whole-part
+  where
+    whole-part : i + n - i ≡ n
+    whole-part = omega arith
+
+-- the run goes on behind a part of whole words
+pub bytes-on : (m n : Machine) (bytes : List ℕ) (i : ℕ) → i + 1024 ≤ length bytes → n ≡ run m (wordsOf (take (i + 1024 - i) (drop i bytes)))
+    → run n (wordsOf (drop (i + 1024) bytes)) ≡ run m (wordsOf (drop i bytes))
+bytes-on m n bytes i h q =
+    ap (λ (x : Machine). run x (wordsOf (drop (i + 1024) bytes))) (q ∙ ap (λ (l : List ℕ). run m (wordsOf l)) (part-of bytes i 1024))
+    ∙ sym (run-append m (wordsOf (take 1024 (drop i bytes))) (wordsOf (drop (i + 1024) bytes)))
+    ∙ ap (λ (l : List ℕ). run m (wordsOf (take 1024 (drop i bytes)) ++ wordsOf l)) (sym (drop-drop 1024 i bytes))
+    ∙ ap (λ (l : List ℕ). run m l) (words-split 256 1024 (drop i bytes) refl (subst (λ (x : ℕ). 1024 ≤ x) (sym (length-drop i bytes)) (omega arith)))
 
 module _ (buffer bytes : List ℕ) (short : Bool) (e : short ≡ tooShort buffer) where
   pub bytes-31 : short ≡ true → asFound 31 buffer ≡ loadedBytes buffer bytes

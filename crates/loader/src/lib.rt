@@ -334,7 +334,7 @@ fn data_run(image: &mut [u32], load: Load, words: &[u32]) -> Load
     let due = load.due;
     let place = place_of(image, table, placed, due);
     copy(image, place, words);
-    let both = crc::words_in_both(
+    let both = crc_short::words_in_both(
         crc::Both {
             block: load.block,
             stream: load.stream,
@@ -602,6 +602,20 @@ fn word_at(bytes: &[u8], i: usize) -> u32
         + octet(bytes[i + 3])
 }
 
+// Bytes of 256 words at most: their words first, then these at once.
+fn chunk_run(image: &mut [u32], load: Load, bytes: &[u8]) -> Load
+    requires { ⌜ Fine (at load (now image)) × (length (now bytes) ≤ 1024) ⌝ }
+    ensures { λ r. ⌜ Leaves (run (at load (now (image .entry))) (wordsOf (now (bytes .entry)))) r (now (image .exit)) ⌝ }
+{
+    let mut words = [0; 256];
+    let mut k: usize = 0;
+    while 4 <= bytes.len() - 4 * k {
+        words[k] = word_at(bytes, 4 * k);
+        k += 1;
+    }
+    run(image, load, &words[..k])
+}
+
 // Bytes from a fresh load state.
 fn bytes_run(image: &mut [u32], bytes: &[u8]) -> Load
     requires { ⌜ imageWords ≤ length (now image) ⌝ }
@@ -610,11 +624,11 @@ fn bytes_run(image: &mut [u32], bytes: &[u8]) -> Load
     clear(image);
     let mut state = fresh();
     let mut i: usize = 0;
-    while 4 <= bytes.len() - i {
-        state = step(image, state, word_at(bytes, i));
-        i += 4;
+    while 1024 <= bytes.len() - i {
+        state = chunk_run(image, state, &bytes[i..i + 1024]);
+        i += 1024;
     }
-    state
+    chunk_run(image, state, &bytes[i..])
 }
 
 // A whole stream of bytes.

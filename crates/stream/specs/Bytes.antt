@@ -1,10 +1,10 @@
 -- Words of bytes: the word that four bytes make, and a stream of bytes read from some place on.
 use mathlib.Core.Path.{_≡_, refl, sym, _∙_, ap, subst}
-use mathlib.Core.List.{List, [], _∷_}
+use mathlib.Core.List.{List, [], _∷_, _++_}
 use Prim.Native.Nat.{ℕ, zero, suc, _+_, _*_, _<_, _≤_}
 use native.Mathlib.Nat.{add-zero}
 use native.Mathlib.Omega.{arith}
-use lib.ListN.{length, getD, drop, length-drop}
+use lib.ListN.{length, getD, take, drop, length-drop}
 use lib.Seq.{drop-drop, getD-drop}
 use Rattle.stream.specs.Paper.{wordsOf}
 
@@ -49,3 +49,18 @@ words-from bytes i h =
 -- fewer than four bytes are no word
 pub words-none : (bytes : List ℕ) (i : ℕ) → length bytes < i + 4 → i ≤ length bytes → wordsOf (drop i bytes) ≡ []
 words-none bytes i h k = no-word (drop i bytes) (subst (λ (n : ℕ). n < 4) (sym (length-drop i bytes)) (omega arith))
+
+-- bytes of whole words, and the others behind them
+pub words-split : (c n : ℕ) (l : List ℕ) → n ≡ 4 * c → n ≤ length l → wordsOf (take n l) ++ wordsOf (drop n l) ≡ wordsOf l
+unfolding wordsOf
+words-split zero zero l e h = refl
+words-split zero (suc n) l e h = absurd (omega arith)
+words-split (suc c) zero l e h = absurd (omega arith)
+words-split (suc c) (suc zero) l e h = absurd (omega arith)
+words-split (suc c) (suc (suc zero)) l e h = absurd (omega arith)
+words-split (suc c) (suc (suc (suc zero))) l e h = absurd (omega arith)
+words-split (suc c) (suc (suc (suc (suc n)))) [] e h = absurd (omega arith)
+words-split (suc c) (suc (suc (suc (suc n)))) (a ∷ []) e h = absurd (omega arith)
+words-split (suc c) (suc (suc (suc (suc n)))) (a ∷ b ∷ []) e h = absurd (omega arith)
+words-split (suc c) (suc (suc (suc (suc n)))) (a ∷ b ∷ d ∷ []) e h = absurd (omega arith)
+words-split (suc c) (suc (suc (suc (suc n)))) (a ∷ b ∷ d ∷ f ∷ l) e h = ap (λ (r : List ℕ). (((a * 256 + b) * 256 + d) * 256 + f) ∷ r) (words-split c n l (omega arith) (omega arith))
