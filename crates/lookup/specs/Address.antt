@@ -11,10 +11,14 @@ use Rattle.image.specs.Fields.{addressVlanid, macaddr, destports, enfport, inde
 abbrev pub holds : ℕ → ℕ → Bool
 holds mask port = eqb (mask / 2 ^ port % 2) 1
 
+-- entry i has the address
+abbrev pub hasAddress : List ℕ → ℕ → ℕ → Bool
+hasAddress image mac i = eqb (macaddr image i) mac
+
 -- entry i has the address "and this VLAN (not compared under SHARED_LEARN)"
 abbrev pub matches : List ℕ → ℕ → ℕ → ℕ → Bool
 matches image vlan mac i =
-    cond (not (eqb (macaddr image i) mac)) false (cond (eqb (sharedLearn image) 1) true (eqb (addressVlanid image i) vlan))
+    cond (not (hasAddress image mac i)) false (cond (eqb (sharedLearn image) 1) true (eqb (addressVlanid image i) vlan))
 
 -- entry i "has ENFPORT, the source address, and this VLAN, and its DESTPORTS lacks the port"
 abbrev pub bars : List ℕ → ℕ → ℕ → ℕ → ℕ → Bool

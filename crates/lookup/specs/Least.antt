@@ -104,6 +104,10 @@ module _ {n top : ℕ} {p : ℕ → Bool} {key : ℕ → ℕ} {i b low : ℕ} wh
   leads-within c (none-yet q r s) = subst (λ (k : ℕ). k ≤ n) (sym r) (le-refl n)
   leads-within c (best-yet q l s) = le-trans (le-of-lt l) c
 
+-- at an equal index
+pub leads-at : {n top : ℕ} {p : ℕ → Bool} {key : ℕ → ℕ} {i j b low : ℕ} → i ≡ j → Leads n top p key i b low → Leads n top p key j b low
+leads-at {n} {top} {p} {key} {i} {j} {b} {low} e l = subst (λ (k : ℕ). Leads n top p key k b low) e l
+
 pub leads-none : (n top : ℕ) (p : ℕ → Bool) (key : ℕ → ℕ) → Leads n top p key 0 n top
 unfolding least
 leads-none n top p key = none-yet refl refl refl

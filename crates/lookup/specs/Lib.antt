@@ -2,4 +2,6 @@
 pub mod Vlan
 pub mod Address
 pub mod Least
+pub mod Groups
+pub mod Leading
 pub mod Proved

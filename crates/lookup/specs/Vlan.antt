@@ -1,5 +1,6 @@
 -- The entry of 07 for a VLAN (document 01, drop 4 and rule 22).
 use mathlib.Core.Path.{_≡_}
+use mathlib.Core.Bool.{Bool}
 use mathlib.Core.List.{List}
 use Prim.Native.Nat.{ℕ}
 use lib.Dec.{eqb}
@@ -7,6 +8,10 @@ use Rattle.laws.specs.Scan.{first}
 use Rattle.image.specs.Layout.{countOf}
 use Rattle.image.specs.Fields.{vlanid}
 
+-- entry i is for the VLAN v
+abbrev pub hasVlan : List ℕ → ℕ → ℕ → Bool
+hasVlan image v i = eqb (vlanid image i) v
+
 -- "in an edited image the first of two 07 entries with one VLANID counts"; the count of 07 where there is none
 abbrev pub vlanAt : List ℕ → ℕ → ℕ
-vlanAt image v = first (countOf image 2) (λ i. eqb (vlanid image i) v)
+vlanAt image v = first (countOf image 2) (λ i. hasVlan image v i)

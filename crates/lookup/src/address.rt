@@ -1,12 +1,15 @@
 // Entries of 05 for an address: one that bars a source from a port, and the one for a destination.
 ghost use mathlib.Core.Path.{_≡_};
 ghost use mathlib.Core.Bool.{cond, false};
-ghost use Prim.Native.Nat.{_≤_, _<_};
+ghost use Prim.Native.Nat.{_+_, _≤_, _<_};
 ghost use lib.Dec.{ltb, eqb};
 ghost use lib.ListN.{length};
 ghost use Rattle.image.specs.Layout.{Held, imageWords, imageIn, countOf};
 ghost use Rattle.image.specs.Fields.{sharedLearn, destports, index};
-ghost use Rattle.lookup.specs.Address.{holds, matches, bars, barred, destinationAt};
+ghost use Rattle.laws.specs.Scan.{some-below};
+ghost use Rattle.lookup.specs.Groups.{from};
+ghost use Rattle.lookup.specs.Address.{holds, hasAddress, matches, bars, barred, destinationAt};
+ghost use Rattle.lookup.specs.Leading.{Leading};
 
 // Is the port in the mask?
 pub fn holds(mask: u64, port: usize) -> bool
@@ -55,6 +58,56 @@ fn bars(image: &[u32], shared: u64, port: usize, vlan: u64, mac: u64, i: usize) 
     matches(image, shared, vlan, mac, i)
 }
 
+// Has one of entries i to i + 7 the address?
+fn one_has(image: &[u32], mac: u64, i: usize) -> bool
+    requires { ⌜ (imageWords ≤ length (now image)) × (countOf (imageIn (now image)) 0 ≤ 1024) × (i + 8 ≤ countOf (imageIn (now image)) 0) ⌝ }
+    ensures { λ r. ⌜ r ≡ some-below 8 (from i (hasAddress (imageIn (now (image .entry))) mac)) ⌝ }
+{
+    let mut found: u64 = 0;
+    let mut k: usize = 0;
+    while k < 8 {
+        found += crate::same(image::address::macaddr(image, i + k), mac);
+        k += 1;
+    }
+    found != 0
+}
+
+// Does one of `count` entries from i on keep this source from this port?
+fn one_bars(
+    image: &[u32],
+    shared: u64,
+    port: usize,
+    vlan: u64,
+    mac: u64,
+    i: usize,
+    count: usize,
+) -> bool
+    requires { ⌜ (imageWords ≤ length (now image)) × (countOf (imageIn (now image)) 0 ≤ 1024) × (i + count ≤ countOf (imageIn (now image)) 0) ⌝ }
+    requires { ⌜ (shared ≡ sharedLearn (imageIn (now image))) × (port < 64) ⌝ }
+    ensures { λ r. ⌜ r ≡ some-below count (from i (bars (imageIn (now (image .entry))) port vlan mac)) ⌝ }
+{
+    let mut k: usize = 0;
+    while k < count {
+        if bars(image, shared, port, vlan, mac, i + k) {
+            return true;
+        }
+        k += 1;
+    }
+    false
+}
+
+// The same for eight entries: where none has the address, none bars.
+fn group_bars(image: &[u32], shared: u64, port: usize, vlan: u64, mac: u64, i: usize) -> bool
+    requires { ⌜ (imageWords ≤ length (now image)) × (countOf (imageIn (now image)) 0 ≤ 1024) × (i + 8 ≤ countOf (imageIn (now image)) 0) ⌝ }
+    requires { ⌜ (shared ≡ sharedLearn (imageIn (now image))) × (port < 64) ⌝ }
+    ensures { λ r. ⌜ r ≡ some-below 8 (from i (bars (imageIn (now (image .entry))) port vlan mac)) ⌝ }
+{
+    if one_has(image, mac, i) {
+        return one_bars(image, shared, port, vlan, mac, i, 8);
+    }
+    false
+}
+
 // Drop 6: does some entry keep this source from this port?
 pub fn barred(image: &[u32], port: usize, vlan: u64, mac: u64) -> bool
     requires { ⌜ (imageWords ≤ length (now image)) × (countOf (imageIn (now image)) 0 ≤ 1024) × (countOf (imageIn (now image)) 5 ≤ 1) ⌝ }
@@ -64,13 +117,13 @@ pub fn barred(image: &[u32], port: usize, vlan: u64, mac: u64) -> bool
     let n = image::counts::count(image, 0);
     let shared = image::parameters::shared_learn(image);
     let mut i: usize = 0;
-    while i < n {
-        if bars(image, shared, port, vlan, mac, i) {
+    while 8 <= n - i {
+        if group_bars(image, shared, port, vlan, mac, i) {
             return true;
         }
-        i += 1;
+        i += 8;
     }
-    false
+    one_bars(image, shared, port, vlan, mac, i, n - i)
 }
 
 // Does entry i match, with an INDEX below the lowest so far?
@@ -85,6 +138,52 @@ fn lower(image: &[u32], shared: u64, vlan: u64, mac: u64, i: usize, low: u64) ->
     false
 }
 
+// The best match so far and its INDEX; the count of 05 and 1,024 where there is none.
+struct Best {
+    pub entry: usize,
+    pub low: u64,
+}
+
+// The best match after `count` more entries from i on.
+fn lowest(
+    image: &[u32],
+    shared: u64,
+    vlan: u64,
+    mac: u64,
+    i: usize,
+    count: usize,
+    best: Best,
+) -> Best
+    requires { ⌜ (imageWords ≤ length (now image)) × (countOf (imageIn (now image)) 0 ≤ 1024) × (i + count ≤ countOf (imageIn (now image)) 0) ⌝ }
+    requires { ⌜ (shared ≡ sharedLearn (imageIn (now image))) × Leading (imageIn (now image)) vlan mac i best ⌝ }
+    ensures { λ r. ⌜ Leading (imageIn (now (image .entry))) vlan mac (i + count) r ⌝ }
+{
+    let mut entry = best.entry;
+    let mut low = best.low;
+    let mut k: usize = 0;
+    while k < count {
+        let at = i + k;
+        if lower(image, shared, vlan, mac, at, low) {
+            entry = at;
+            low = image::address::index(image, at);
+        }
+        k += 1;
+    }
+    Best { entry, low }
+}
+
+// The same for eight entries: where none has the address, none matches.
+fn group_lowest(image: &[u32], shared: u64, vlan: u64, mac: u64, i: usize, best: Best) -> Best
+    requires { ⌜ (imageWords ≤ length (now image)) × (countOf (imageIn (now image)) 0 ≤ 1024) × (i + 8 ≤ countOf (imageIn (now image)) 0) ⌝ }
+    requires { ⌜ (shared ≡ sharedLearn (imageIn (now image))) × Leading (imageIn (now image)) vlan mac i best ⌝ }
+    ensures { λ r. ⌜ Leading (imageIn (now (image .entry))) vlan mac (i + 8) r ⌝ }
+{
+    if one_has(image, mac, i) {
+        return lowest(image, shared, vlan, mac, i, 8, best);
+    }
+    best
+}
+
 // The match with the lowest INDEX, of equal ones the first; the count of 05 where nothing matches.
 pub fn destination(image: &[u32], vlan: u64, mac: u64) -> usize
     requires { ⌜ (imageWords ≤ length (now image)) × (countOf (imageIn (now image)) 0 ≤ 1024) × (countOf (imageIn (now image)) 5 ≤ 1) ⌝ }
@@ -92,15 +191,14 @@ pub fn destination(image: &[u32], vlan: u64, mac: u64) -> usize
 {
     let n = image::counts::count(image, 0);
     let shared = image::parameters::shared_learn(image);
-    let mut best: usize = n;
-    let mut low: u64 = 1024;
+    let mut best = Best {
+        entry: n,
+        low: 1024,
+    };
     let mut i: usize = 0;
-    while i < n {
-        if lower(image, shared, vlan, mac, i, low) {
-            best = i;
-            low = image::address::index(image, i);
-        }
-        i += 1;
+    while 8 <= n - i {
+        best = group_lowest(image, shared, vlan, mac, i, best);
+        i += 8;
     }
-    best
+    lowest(image, shared, vlan, mac, i, n - i, best).entry
 }

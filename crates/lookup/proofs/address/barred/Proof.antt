@@ -1,32 +1,43 @@
--- `lookup::address::barred`: none of the entries that the loop has passed bars the source.
-use mathlib.Core.Path.{_≡_, sym, _∙_}
-use mathlib.Core.Bool.{Bool, false}
-use mathlib.Core.List.{List}
-use Prim.Native.Nat.{ℕ, _-_, _≤_}
+-- `lookup::address::barred`: none of the groups that the loop has passed bars the source.
+use mathlib.Core.Path.{_≡_, refl, sym, _∙_, ap}
+use mathlib.Core.Bool.{false}
+use Prim.Native.Nat.{ℕ, _+_, _-_, _≤_, _<_}
 use native.Mathlib.Omega.{arith}
 use borrow.Author.Needs.{needs}
 use denote.Ref.{now}
-use Rattle.laws.specs.Scan.{some-below, some-none, some-not, some-found, some-end}
+use Rattle.laws.specs.Scan.{some-below, some-none}
 use Rattle.image.specs.Layout.{imageIn, countOf}
 use Rattle.lookup.specs.Address.{bars}
+use Rattle.lookup.specs.Groups.{none-yet, some-rest, some-in}
 use Rattle.lookup.proofs.address.barred.Statement.{statement}
 use Rattle.lookup.proofs.address.barred.Tie as tie
 
 abbrev Inv-loop : tie.InvT-loop
-Inv-loop image port vlan mac n shared i₀ i = (i ≤ n) × (some-below i (λ j. bars (imageIn image) port vlan mac j) ≡ false)
+Inv-loop image port vlan mac n shared i₀ i = (i ≤ n) × (some-below i (bars (imageIn image) port vlan mac) ≡ false)
 
 abbrev μ-loop : tie.MeasureT-loop
 μ-loop image port vlan mac n shared i₀ i = n - i
 
 returns : tie.Need-returns Inv-loop μ-loop
 returns c =
-    let s = c .before .before .before .before .before .before .before .args in
-    sym (some-found (countOf (imageIn (now (s .image))) 0) (c .before .before .before .loop .i) _ (omega arith) (sym (c .before .bars .ensures) ∙ c .if1 .taken))
+    let l = c .before .before .before .loop in
+    let a = c .before .before .before .before .before .before .before .args in
+    sym (some-in (countOf (imageIn (now (a .image))) 0) (l .i) 8 _ (omega arith) (sym (c .before .group-bars .ensures) ∙ c .if1 .taken))
 
 loop-again : tie.Need-loop-again Inv-loop μ-loop
 loop-again c =
     let l = c .before .before .before .loop in
-    (omega arith, some-not (l .i) _ (l .inv .1) (sym (c .before .bars .ensures) ∙ c .if1 .left))
+    let a = c .before .before .before .before .before .before .before .args in
+    (omega arith, none-yet (bars (imageIn (now (a .image))) (a .port) (a .vlan) (a .mac)) (l .i) 8 (l .inv .1) (sym (c .before .group-bars .ensures) ∙ c .if1 .left))
+
+returns-2 : tie.Need-returns-2 Inv-loop μ-loop
+returns-2 c =
+    let l = c .before .before .loop in
+    let n = c .before .before .before .before .count in
+    let a = c .before .before .before .before .before .before .args in
+    let p = bars (imageIn (now (a .image))) (a .port) (a .vlan) (a .mac) in
+    let whole : l .i + (n .result - l .i) ≡ n .result = omega arith in
+    c .one-bars .ensures ∙ sym (some-rest (n .result - l .i) (l .i) p (l .inv .1)) ∙ ap (λ (k : ℕ). some-below k p) (whole ∙ n .ensures .0)
 
 pub barred-spec : {M : Type 1} → statement M
 barred-spec =
@@ -37,9 +48,12 @@ barred-spec =
     (λ c κs. search needs)
     (λ c κs. search needs)
     (λ c. (search needs, some-none _))
+    (λ c. search needs)
     (λ c κs. search needs)
     returns
     (λ c. search needs)
     (λ c. search needs)
     loop-again
-    (λ c. some-end _ _ (c .before .loop .i) _ (c .before .before .before .count .ensures .0) (c .loop-test .left) (c .before .loop .inv .0) (c .before .loop .inv .1)))
+    (λ c. search needs)
+    (λ c κs. search needs)
+    returns-2)

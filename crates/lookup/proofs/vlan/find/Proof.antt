@@ -1,51 +1,21 @@
--- `lookup::vlan::find`: none of the entries that the loop has passed has the VLANID, so where it stops is the first.
+-- `lookup::vlan::find`: none of the groups that the loop has passed has the VLANID.
 use mathlib.Core.Path.{_≡_, sym, _∙_}
-use mathlib.Core.Bool.{Bool}
 use Prim.Native.Nat.{ℕ, _-_, _≤_}
 use native.Mathlib.Omega.{arith}
-use lib.Dec.{eqb}
-use mathlib.Core.List.{List}
 use borrow.Author.Needs.{needs}
-use borrow.Author.Tests.{eq-eqb, ne-eqb}
 use denote.Ref.{now}
-use Rattle.laws.specs.Scan.{first, first-none, first-more, first-found, first-end}
-use Rattle.image.specs.Layout.{imageIn, countOf}
-use Rattle.image.specs.Fields.{vlanid}
+use Rattle.laws.specs.Scan.{first, first-none}
+use Rattle.image.specs.Layout.{imageIn}
+use Rattle.lookup.specs.Vlan.{hasVlan}
+use Rattle.lookup.specs.Groups.{first-past}
 use Rattle.lookup.proofs.vlan.find.Statement.{statement}
 use Rattle.lookup.proofs.vlan.find.Tie as tie
 
-abbrev has : List ℕ → ℕ → ℕ → Bool
-has image v i = eqb (vlanid (imageIn image) i) v
-
 abbrev Inv-loop : tie.InvT-loop
-Inv-loop image v n i₀ i = (i ≤ n) × (first i (has image v) ≡ i)
+Inv-loop image v n i₀ i = (i ≤ n) × (first i (hasVlan (imageIn image) v) ≡ i)
 
 abbrev μ-loop : tie.MeasureT-loop
 μ-loop image v n i₀ i = n - i
-
-returns : tie.Need-returns Inv-loop μ-loop
-returns c =
-    let s = c .before .before .before .before .before .before .args in
-    let l = c .before .before .before .loop in (
-      sym
-          (first-found (countOf (imageIn (now (s .image))) 2) (l .i) (has (now (s .image)) (s .vlanid)) (omega arith) (l .inv .1)
-          (eq-eqb _ _ (sym (c .before .vlanid .ensures .0) ∙ c .if1 .taken))),
-      omega arith,
-    )
-
-loop-again : tie.Need-loop-again Inv-loop μ-loop
-loop-again c =
-    let s = c .before .before .before .before .before .before .args in
-    let l = c .before .before .before .loop in (
-      omega arith,
-      first-more (l .i) (has (now (s .image)) (s .vlanid)) (l .inv .1)
-          (ne-eqb _ _ (λ e. c .if1 .left (c .before .vlanid .ensures .0 ∙ e))),
-    )
-
-returns-2 : tie.Need-returns-2 Inv-loop μ-loop
-returns-2 c =
-    let l = c .before .loop in
-    (first-end _ _ (l .i) _ (c .before .before .count .ensures .0) (c .loop-test .left) (l .inv .0) (l .inv .1), omega arith)
 
 pub find-spec : {M : Type 1} → statement M
 find-spec =
@@ -55,9 +25,13 @@ find-spec =
     μ-loop
     (λ c κs. search needs)
     (λ c. (search needs, first-none _))
+    (λ c. search needs)
     (λ c κs. search needs)
-    returns
+    (λ c κs. search needs)
     (λ c. search needs)
     (λ c. search needs)
-    loop-again
-    returns-2)
+    (λ c. search needs)
+    (λ c. let l = c .before .before .before .loop in
+    (omega arith, first-past 16 (l .i) _ (l .inv .1) (sym (c .before .one-has .ensures) ∙ c .if1 .left)))
+    (λ c κs. search needs)
+    (λ c. search needs))

@@ -1,0 +1,35 @@
+-- `lookup::address::one_bars`: none of the entries that the loop has passed bars the source.
+use mathlib.Core.Path.{_≡_, refl, sym, _∙_}
+use mathlib.Core.Bool.{false}
+use Prim.Native.Nat.{ℕ, _-_, _≤_}
+use native.Mathlib.Omega.{arith}
+use borrow.Author.Needs.{needs}
+use denote.Ref.{now}
+use Rattle.laws.specs.Scan.{some-below, some-none, some-not, some-found, some-end}
+use Rattle.image.specs.Layout.{imageIn}
+use Rattle.lookup.specs.Address.{bars}
+use Rattle.lookup.specs.Groups.{from}
+use Rattle.lookup.proofs.address.one_bars.Statement.{statement}
+use Rattle.lookup.proofs.address.one_bars.Tie as tie
+
+abbrev Inv-loop : tie.InvT-loop
+Inv-loop image shared port vlan mac i count k₀ k = (k ≤ count) × (some-below k (from i (bars (imageIn image) port vlan mac)) ≡ false)
+
+abbrev μ-loop : tie.MeasureT-loop
+μ-loop image shared port vlan mac i count k₀ k = count - k
+
+pub one-bars-spec : {M : Type 1} → statement M
+one-bars-spec =
+    tie.close
+    (tie.spec
+    Inv-loop
+    μ-loop
+    (λ c. (search needs, some-none _))
+    (λ c. search needs)
+    (λ c κs. search needs)
+    (λ c. sym (some-found _ (c .before .before .before .loop .k) _ (c .before .before .loop-test .taken) (sym (c .before .bars .ensures) ∙ c .if1 .taken)))
+    (λ c. search needs)
+    (λ c. search needs)
+    (λ c. let l = c .before .before .before .loop in
+    (omega arith, some-not (l .k) _ (l .inv .1) (sym (c .before .bars .ensures) ∙ c .if1 .left)))
+    (λ c. some-end _ _ (c .before .loop .k) _ refl (c .loop-test .left) (c .before .loop .inv .0) (c .before .loop .inv .1)))

@@ -1,0 +1,29 @@
+-- A search of 05 by groups: the match that it holds so far, and what a group without the address has not.
+use mathlib.Core.Path.{_≡_, refl, sym, _∙_, ap}
+use mathlib.Core.Bool.{Bool, true, false, cond, not}
+use mathlib.Core.List.{List}
+use Prim.Native.Nat.{ℕ}
+use lib.Dec.{eqb}
+use Rattle.image.specs.Layout.{countOf}
+use Rattle.image.specs.Fields.{enfport, destports, sharedLearn, addressVlanid, index}
+use Rattle.lookup.specs.Address.{holds, hasAddress, matches, bars}
+use Rattle.lookup.specs.Least.{Leads}
+use Rattle.lookup.specs.declared.address.Best.{Best}
+
+-- after i entries: the match with the lowest INDEX and that INDEX, or the count of 05 and 1,024
+abbrev pub Leading : List ℕ → ℕ → ℕ → ℕ → Best → Type 0
+Leading image vlan mac i best = Leads (countOf image 0) 1024 (matches image vlan mac) (index image) i (best .entry) (best .low)
+
+pub no-match : (image : List ℕ) (vlan mac i : ℕ) → hasAddress image mac i ≡ false → matches image vlan mac i ≡ false
+no-match image vlan mac i h =
+    ap (λ (t : Bool). cond (not t) false (cond (eqb (sharedLearn image) 1) true (eqb (addressVlanid image i) vlan))) h
+
+pub no-bar : (image : List ℕ) (port vlan mac i : ℕ) → hasAddress image mac i ≡ false → bars image port vlan mac i ≡ false
+no-bar image port vlan mac i h =
+    ap (λ (t : Bool). cond (eqb (enfport image i) 0) false (cond (holds (destports image i) port) false t)) (no-match image vlan mac i h)
+    ∙ neither (eqb (enfport image i) 0) (holds (destports image i) port)
+  where
+    neither : (a b : Bool) → cond a false (cond b false false) ≡ false
+    neither true b = refl
+    neither false true = refl
+    neither false false = refl
