@@ -1,10 +1,13 @@
 // The loading rules, one function and one pass each, and the first one broken.
 use image::counts::count;
 ghost use mathlib.Core.Path.{_≡_};
+ghost use mathlib.Core.Bool.{cond};
 ghost use Prim.Native.Nat.{_≤_, _<_};
 ghost use lib.ListN.{length, drop};
 ghost use Rattle.image.specs.Layout.{imageWords, imageIn, countOf};
 ghost use Rattle.image.specs.Sound.{Bounded};
+ghost use Rattle.image.specs.Fields.{vlanid};
+ghost use Rattle.laws.specs.Scan.{Marks};
 ghost use Rattle.rules.specs.Rules.{vlanTwice, vlanMissing, sharindxBeyond, spaceOver, indexTwice, rules, firstOf, ruled};
 
 fn wide(x: u8) -> usize
@@ -13,10 +16,28 @@ fn wide(x: u8) -> usize
     x as usize
 }
 
-// Rule 21. A mark a VLANID; a mark that is set already when its VLANID comes counts.
-fn vlan_twice(image: &[u32]) -> bool
+// Rule 22: each of the five ports, whether it takes frames or not, by a mark for each VLANID of 07.
+fn vlan_missing(image: &[u32], marks: &[u8; 4096]) -> bool
     requires { ⌜ Bounded (now image) ⌝ }
-    ensures { λ r. ⌜ r ≡ vlanTwice (imageIn (now (image .entry))) ⌝ }
+    requires { ⌜ countOf (imageIn (now image)) 4 ≡ 5 ⌝ }
+    requires { ⌜ (length (now marks) ≡ 4096) × Marks (countOf (imageIn (now image)) 2) (vlanid (imageIn (now image))) (now marks) ⌝ }
+    ensures { λ r. ⌜ r ≡ vlanMissing (imageIn (now (image .entry))) ⌝ }
+{
+    let mut port: usize = 0;
+    while port < 5 {
+        if marks[image::mac::vlanid(image, port) as usize] == 0 {
+            return true;
+        }
+        port += 1;
+    }
+    false
+}
+
+// Rules 21 and 22. A mark a VLANID; a mark that is set already when its VLANID comes counts.
+fn vlans_broken(image: &[u32]) -> u32
+    requires { ⌜ Bounded (now image) ⌝ }
+    requires { ⌜ countOf (imageIn (now image)) 4 ≡ 5 ⌝ }
+    ensures { λ r. ⌜ r ≡ cond (vlanTwice (imageIn (now (image .entry)))) 21 (cond (vlanMissing (imageIn (now (image .entry)))) 22 0) ⌝ }
 {
     let n = count(image, 2);
     let mut marks = [0u8; 4096];
@@ -28,7 +49,13 @@ fn vlan_twice(image: &[u32]) -> bool
         marks[v] = 1;
         i += 1;
     }
-    again != 0
+    if again != 0 {
+        return 21;
+    }
+    if vlan_missing(image, &marks) {
+        return 22;
+    }
+    0
 }
 
 // Rule 25, as rule 21.
@@ -47,23 +74,6 @@ fn index_twice(image: &[u32]) -> bool
         i += 1;
     }
     again != 0
-}
-
-// Rule 22: each of the five ports, whether it takes frames or not.
-fn vlan_missing(image: &[u32]) -> bool
-    requires { ⌜ Bounded (now image) ⌝ }
-    requires { ⌜ countOf (imageIn (now image)) 4 ≡ 5 ⌝ }
-    ensures { λ r. ⌜ r ≡ vlanMissing (imageIn (now (image .entry))) ⌝ }
-{
-    let n = count(image, 2);
-    let mut port: usize = 0;
-    while port < 5 {
-        if lookup::vlan::find(image, image::mac::vlanid(image, port)) == n {
-            return true;
-        }
-        port += 1;
-    }
-    false
 }
 
 // Rule 23.
@@ -97,18 +107,12 @@ fn space_over(image: &[u32]) -> bool
     929 < sum
 }
 
-// The rules after 20, of an image that has what 20 asks for.
-fn broken_after_20(image: &[u32]) -> u32
+// The rules after 22.
+fn broken_after_22(image: &[u32]) -> u32
     requires { ⌜ Bounded (now image) ⌝ }
-    requires { ⌜ (countOf (imageIn (now image)) 4 ≡ 5) × (countOf (imageIn (now image)) 6 ≡ 1) ⌝ }
-    ensures { λ r. ⌜ r ≡ firstOf (drop 1 rules) (imageIn (now (image .entry))) ⌝ }
+    requires { ⌜ countOf (imageIn (now image)) 6 ≡ 1 ⌝ }
+    ensures { λ r. ⌜ r ≡ firstOf (drop 3 rules) (imageIn (now (image .entry))) ⌝ }
 {
-    if vlan_twice(image) {
-        return 21;
-    }
-    if vlan_missing(image) {
-        return 22;
-    }
     if sharindx_beyond(image) {
         return 23;
     }
@@ -118,7 +122,20 @@ fn broken_after_20(image: &[u32]) -> u32
     if index_twice(image) {
         return 25;
     }
-    0
+    0 // no rule is broken: the image is loaded
+}
+
+// The rules after 20, of an image that has what 20 asks for.
+fn broken_after_20(image: &[u32]) -> u32
+    requires { ⌜ Bounded (now image) ⌝ }
+    requires { ⌜ (countOf (imageIn (now image)) 4 ≡ 5) × (countOf (imageIn (now image)) 6 ≡ 1) ⌝ }
+    ensures { λ r. ⌜ r ≡ firstOf (drop 1 rules) (imageIn (now (image .entry))) ⌝ }
+{
+    let vlans = vlans_broken(image);
+    if vlans != 0 {
+        return vlans;
+    }
+    broken_after_22(image)
 }
 
 // 0, or the number of the first broken rule.
