@@ -13,7 +13,7 @@ use Rattle.crc.specs.Crc.{checksum}
 use Rattle.image.specs.Rows.{sizeOf, mostOf}
 use Rattle.image.specs.Tables.{kindOf}
 use Rattle.promises.specs.First.{Test, test, First, firstOf, first-is, same-first}
-use Rattle.promises.specs.Ids.{Kinds, kinds, unknownId, otherId, carriedId}
+use Rattle.promises.specs.Ids.{kinds, unknownId, otherId, carriedId}
 use Rattle.stream.specs.Header.{device, idOf, lengthOf, wrong}
 use Rattle.stream.specs.Paper.{Framed, refused, cut, passed, none, put, had, checked, blocks, framed}
 

@@ -1,13 +1,12 @@
 -- Demand 2, of the loading rules: each number has a predicate of its own, written from the paper's row, and the answer is n exactly when n's holds and none before it.
 use mathlib.Core.Path.{_≡_, refl, sym, _∙_, ap, subst}
-use mathlib.Core.Logic.{_⊎_, inl, inr, ⊎-elim}
+use mathlib.Core.Logic.{_⊎_, ⊎-elim}
 use mathlib.Core.Bool.{Bool, true, false, cond, not, _||_, true≢false, false≢true}
 use mathlib.Core.List.{List, [], _∷_}
 use Prim.Native.Nat.{ℕ, zero, suc, _<_, _≤_}
-use native.Mathlib.Nat.{le-antisymm, le-step, le-of-suc-le-suc, not-suc-le-zero, lt-suc-self, lt-trans, lt-irrefl, le-refl, eq-or-lt-of-le, suc-ne-zero, lt-of-lt-of-le, le-of-lt}
-use native.Mathlib.Omega.{arith}
+use native.Mathlib.Nat.{le-antisymm, le-step, le-of-suc-le-suc, not-suc-le-zero, lt-suc-self, lt-irrefl, le-refl, eq-or-lt-of-le, le-of-lt}
 use lib.Dec.{ltb, eqb}
-use borrow.Author.Tests.{ltb-true, ltb-false, lt-ltb, le-ltb, eqb-true, eqb-false, eq-eqb, ne-eqb, not-true}
+use borrow.Author.Tests.{ltb-true, ltb-false, lt-ltb, le-ltb, eqb-true, eq-eqb, ne-eqb, not-true}
 use Rattle.laws.specs.Scan.{some-below, some-found, first, total, twice}
 use Rattle.image.specs.Layout.{countOf}
 use Rattle.image.specs.Fields.{vlanid, portVlanid, sharindx, partSpc, index}
