@@ -1,5 +1,5 @@
--- Demand 1, of writes: a load that a write refuses, in whatever state it stood, is left with an image all zero. And 30, which leaves everything as found, is
--- for a write to a load that has begun: no whole load and no first write gives it.
+-- Demand 1, of writes: a load that a write refuses, in whatever state it stood, is left with an image all zero, and an answer that was told is repeated.
+-- And 30, which leaves everything as found, is for a write to a load that has begun: no whole load and no first write gives it.
 use mathlib.Core.Path.{_≡_, refl, sym, _∙_, ap, subst}
 use mathlib.Core.Bool.{Bool, true, false, cond, not, true≢false, false≢true}
 use mathlib.Core.List.{List, [], _∷_}
@@ -21,8 +21,9 @@ use Rattle.stream.specs.declared.Load.{Load}
 use Rattle.stream.specs.declared.Phase.{Phase}
 use Rattle.stream.specs.declared.Phase.the-variants.{Device, Id, Length, Sum, Data, Told}
 use Rattle.stream.specs.Header.{device, idOf, lengthOf, wrong}
-use Rattle.stream.specs.Paper.{Framed, refused, cut, passed, refusedWith, outcomeOf, framed, loaded}
+use Rattle.stream.specs.Paper.{Framed, refused, cut, passed, refusedWith, outcomeOf, framed, loaded, numbered}
 use Rattle.stream.specs.Machine.{Machine, at, told, cleared, refuse, hadIn, stepIn, step, run, answerOf, begun, overdueIn, damaged, outside, Written, written, untouched, opened, wrote}
+use Rattle.stream.specs.Runs.{run-told}
 use Rattle.promises.specs.First.{Test, First, unbroken, this, later}
 use Rattle.promises.specs.Framing.{Place, Tells, breaks, ends, whole, goes, nothing, differs, begins, first-broken-framing}
 use Rattle.promises.specs.Framing as framing
@@ -114,12 +115,24 @@ refusing (Told k) n e = (refl, go (eqb k 0) refl e)
     go true q h z = absurd (false≢true (ap isRefusal h))
     go false q h z = eqb-false k 0 q z
 
--- "a refused load leaves the lent image all zero": any load that has told no answer yet, refused by a write that is not itself refused with 31, 30 or 32
+-- a write that is not itself refused with 31, 30 or 32 is a run
+ran : (l : Load) (buffer words : List ℕ) → tooShort buffer ≡ false → damaged l (imageIn buffer) ≡ false → outside (length words) ≡ false
+    → wrote l buffer words ≡ written (run (opened l buffer) words)
+unfolding wrote
+ran l buffer words h d o =
+    sym
+    (pass (tooShort buffer) (tooShort buffer) m (untouched 31 l buffer) _ refl h
+    (pass (damaged l (imageIn buffer)) (damaged l (imageIn buffer)) m (untouched 30 l buffer) _ refl d
+    (pass (outside (length words)) (outside (length words)) m (untouched 32 l buffer) m refl o refl)))
+  where
+    m : Written
+    m = written (run (opened l buffer) words)
+
+-- "a refused load leaves the lent image all zero": any load that has told no answer yet
 pub refused-write-is-zero : (l : Load) (buffer words : List ℕ) (n : ℕ) → isTold (l .phase) ≡ false → tooShort buffer ≡ false → damaged l (imageIn buffer) ≡ false
     → outside (length words) ≡ false
     → wrote l buffer words .answer ≡ Refused n
     → imageIn (wrote l buffer words .buffer) ≡ replicate imageWords 0
-unfolding wrote
 refused-write-is-zero l buffer words n t h d o e =
     ap (λ (w : Written). imageIn (w .buffer)) is
     ∙ run-zero (opened l buffer) words (waits (opened l buffer) t) .left (toldBy (m .load .phase)) (told-so .0) (told-so .1)
@@ -128,14 +141,20 @@ refused-write-is-zero l buffer words n t h d o e =
     m = run (opened l buffer) words
 
     is : wrote l buffer words ≡ written m
-    is =
-        sym
-        (pass (tooShort buffer) (tooShort buffer) (written m) (untouched 31 l buffer) _ refl h
-        (pass (damaged l (imageIn buffer)) (damaged l (imageIn buffer)) (written m) (untouched 30 l buffer) _ refl d
-        (pass (outside (length words)) (outside (length words)) (written m) (untouched 32 l buffer) (written m) refl o refl)))
+    is = ran l buffer words h d o
 
     told-so : (m .load .phase ≡ Told (toldBy (m .load .phase))) × (toldBy (m .load .phase) ≡ 0 → ⊥)
     told-so = refusing (m .load .phase) n (sym (ap (λ (w : Written). w .answer) is) ∙ e)
+
+-- "the answer is repeated and nothing is written"
+pub told-answer-is-repeated : (l : Load) (buffer words : List ℕ) (n : ℕ) → l .phase ≡ Told n → tooShort buffer ≡ false → damaged l (imageIn buffer) ≡ false
+    → outside (length words) ≡ false
+    → wrote l buffer words ≡ record { answer = numbered n; load = l; buffer = buffer }
+told-answer-is-repeated l buffer words n e h d o =
+    ran l buffer words h d o
+    ∙ ap (λ (p : Phase). written (run (at l (cond (begun p) buffer (cleared buffer))) words)) e
+    ∙ ap written (run-told l buffer words n e)
+    ∙ ap (λ (p : Phase). record { answer = answerOf p; load = l; buffer = buffer }) e
 
 -- ---- 30 is for a write to a load already begun
 
