@@ -12,6 +12,8 @@ use borrow.Author.Tests.{eqb-true, eqb-false, eq-eqb, ne-eqb}
 use Rattle.crc.specs.Crc.{checksum}
 use Rattle.image.specs.Rows.{sizeOf, mostOf}
 use Rattle.image.specs.Tables.{kindOf}
+use Rattle.promises.specs.First.{Test, test, First, firstOf, first-is, same-first}
+use Rattle.promises.specs.Ids.{kinds, unknownId, otherId, carriedId}
 use Rattle.stream.specs.Header.{device, idOf, lengthOf, wrong}
 use Rattle.stream.specs.Paper.{Framed, refused, cut, passed, none, put, had, checked, blocks, framed}
 
@@ -33,8 +35,12 @@ headed (a ∷ []) = false
 headed (a ∷ b ∷ []) = false
 headed (a ∷ b ∷ c ∷ rest) = true
 
+abbrev pub idAt : Place → ℕ
+idAt p = idOf (getD (p .words) 0 0)
+
+-- the ID's table, by its row
 abbrev pub kindAt : Place → ℕ
-kindAt p = kindOf (idOf (getD (p .words) 0 0))
+kindAt p = kindOf (idAt p)
 
 abbrev pub lengthAt : Place → ℕ
 lengthAt p = lengthOf (getD (p .words) 1 0)
@@ -48,7 +54,7 @@ isBlock p = headed (p .words) && not (isEnd p)
 
 -- the ID is of a table that is carried
 abbrev pub carried : Place → Bool
-carried p = not (eqb (kindAt p) 10) && not (eqb (kindAt p) 9)
+carried p = carriedId (idAt p)
 
 abbrev pub dataAt : Place → List ℕ
 dataAt p = take (lengthAt p) (drop 3 (p .words))
@@ -69,11 +75,11 @@ headerWrong p = isBlock p && not (eqb (getD (p .words) 2 0) (checksum (take 2 (p
 
 -- 3: "ID not in table 2 of 001"
 abbrev pub unknown : Place → Bool
-unknown p = isBlock p && eqb (kindAt p) 10
+unknown p = isBlock p && unknownId (idAt p)
 
 -- 4: "ID in table 2, not in the table above"
 abbrev pub notCarried : Place → Bool
-notCarried p = isBlock p && eqb (kindAt p) 9
+notCarried p = isBlock p && otherId (idAt p)
 
 -- 5: "length not whole entries"
 abbrev pub notWhole : Place → Bool
@@ -97,41 +103,11 @@ wordsEnd p = not (headed (p .words)) || (isBlock p && not (some (behind p)))
 
 -- ---- their order
 
-pub record Test : Type 0 where
-  pub number : ℕ
-  pub holds : Bool
-
-abbrev test : ℕ → Bool → Test
-test n b = record { number = n; holds = b }
-
 -- "8 for an end block; else 2, 3, 4, 5, 6, and 7 after the data"
 abbrev pub tests : Place → List Test
 tests p =
     test 8 (globalWrong p) ∷ test 2 (headerWrong p) ∷ test 3 (unknown p) ∷ test 4 (notCarried p) ∷ test 5 (notWhole p) ∷ test 6 (tooMany p)
     ∷ test 7 (dataWrong p) ∷ test 10 (wordsEnd p) ∷ []
-
--- n is the number of the first test that holds; 0 where none does
-pub data First : List Test → ℕ → Type 0 where
-  unbroken : First [] 0
-  this : {t : Test} {ts : List Test} → t .holds ≡ true → First (t ∷ ts) (t .number)
-  later : {t : Test} {ts : List Test} {n : ℕ} → t .holds ≡ false → First ts n → First (t ∷ ts) n
-
-abbrev firstOf : List Test → ℕ
-firstOf [] = 0
-firstOf (t ∷ ts) = cond (t .holds) (t .number) (firstOf ts)
-
-first-is : (ts : List Test) → First ts (firstOf ts)
-first-is [] = unbroken
-first-is (t ∷ ts) = go (first-is ts) (t .holds) refl
-  where
-    go : First ts (firstOf ts) → (b : Bool) → t .holds ≡ b → First (t ∷ ts) (cond b (t .number) (firstOf ts))
-    go rest true e = this e
-    go rest false e = later e rest
-
-only-first : {ts : List Test} {n : ℕ} → First ts n → n ≡ firstOf ts
-only-first unbroken = refl
-only-first (this {t} {ts} e) = sym (ap (λ (b : Bool). cond b (t .number) (firstOf ts)) e)
-only-first (later {t} {ts} {n} e f) = only-first f ∙ sym (ap (λ (b : Bool). cond b (t .number) (firstOf ts)) e)
 
 -- ---- from place to place
 
@@ -160,13 +136,33 @@ from turns p = blocks turns (p .before) (p .lists) (p .words)
 abbrev byFirst : ℕ → Place → ℕ → Framed
 byFirst turns p n = cond (eqb n 0) (cond (isEnd p) (passed (p .lists)) (from turns (onward p))) (refusedBy n)
 
-one-block : (turns : ℕ) (before : List ℕ) (lists : List (List ℕ)) (ws : List ℕ)
-    → blocks (suc turns) before lists ws ≡ byFirst turns (place before lists ws) (firstOf (tests (place before lists ws)))
+-- the tests, by what is said of the ID: strange to table 2, another's, or a carried table's
+abbrev asked : Place → Bool → Bool → Bool → List Test
+asked p strange other known =
+    test 8 (globalWrong p) ∷ test 2 (headerWrong p) ∷ test 3 (isBlock p && strange) ∷ test 4 (isBlock p && other)
+    ∷ test 5 (isBlock p && (known && not (eqb (lengthAt p % sizeOf (kindAt p)) 0)))
+    ∷ test 6 (isBlock p && (known && ltb (mostOf (kindAt p)) (had (p .lists) (kindAt p) + lengthAt p / sizeOf (kindAt p))))
+    ∷ test 7 (dataWrong p) ∷ test 10 (wordsEnd p) ∷ []
+
+-- asked of the kind, as the walk asks
+abbrev byKind : Place → List Test
+byKind p = asked p (eqb (kindAt p) 10) (eqb (kindAt p) 9) (not (eqb (kindAt p) 10) && not (eqb (kindAt p) 9))
+
+-- which is the same, since the kind and the ID's lists agree
+same-tests : (p : Place) → byKind p ≡ tests p
+same-tests p =
+    let k = kinds (idAt p) in
+    ap (λ (b : Bool). asked p b (eqb (kindAt p) 9) (not (eqb (kindAt p) 10) && not (eqb (kindAt p) 9))) (k .unknown)
+    ∙ ap (λ (b : Bool). asked p (unknownId (idAt p)) b (not (eqb (kindAt p) 10) && not (eqb (kindAt p) 9))) (k .other)
+    ∙ ap (asked p (unknownId (idAt p)) (otherId (idAt p))) (k .carried)
+
+by-kind : (turns : ℕ) (before : List ℕ) (lists : List (List ℕ)) (ws : List ℕ)
+    → blocks (suc turns) before lists ws ≡ byFirst turns (place before lists ws) (firstOf (byKind (place before lists ws)))
 unfolding blocks
-one-block turns before lists [] = refl
-one-block turns before lists (h0 ∷ []) = refl
-one-block turns before lists (h0 ∷ h1 ∷ []) = refl
-one-block turns before lists (h0 ∷ h1 ∷ h2 ∷ rest) =
+by-kind turns before lists [] = refl
+by-kind turns before lists (h0 ∷ []) = refl
+by-kind turns before lists (h0 ∷ h1 ∷ []) = refl
+by-kind turns before lists (h0 ∷ h1 ∷ h2 ∷ rest) =
     go (eqb n 0) (not (eqb h2 (checksum (before ++ (h0 ∷ h1 ∷ []))))) (not (eqb h2 (checksum (h0 ∷ h1 ∷ [])))) (eqb k 10) (eqb k 9) (not (eqb (n % sizeOf k) 0))
     (ltb (mostOf k) (had lists k + n / sizeOf k))
     (drop n rest)
@@ -218,6 +214,11 @@ one-block turns before lists (h0 ∷ h1 ∷ h2 ∷ rest) =
     go false s8 false false false false false [] = refl
     go false s8 false false false false false (sum ∷ after) = seven sum after (not (eqb sum (checksum ws)))
 
+one-block : (turns : ℕ) (before : List ℕ) (lists : List (List ℕ)) (ws : List ℕ)
+    → blocks (suc turns) before lists ws ≡ byFirst turns (place before lists ws) (firstOf (tests (place before lists ws)))
+one-block turns before lists ws =
+    by-kind turns before lists ws ∙ ap (λ (ts : List Test). byFirst turns (place before lists ws) (firstOf ts)) (same-tests (place before lists ws))
+
 -- the words behind a block are fewer
 shorter : (ws : List ℕ) (n turns : ℕ) → length ws ≤ suc turns → length (drop 1 (drop n (drop 3 ws))) ≤ turns
 shorter ws n turns h =
@@ -253,9 +254,6 @@ tells (suc turns) before lists ws h =
     by n f false e rest = number n f (eqb-false n 0 e) (eqb n 10) refl
 
 -- ---- a place tells one thing
-same-first : {ts : List Test} {m n : ℕ} → First ts m → First ts n → m ≡ n
-same-first f g = only-first f ∙ sym (only-first g)
-
 ten : _≡_ {A = ℕ} 10 0 → ⊥
 ten = eqb-false 10 0 refl
 

@@ -1,17 +1,18 @@
 -- Demand 2, of the loading rules: each number has a predicate of its own, written from the paper's row, and the answer is n exactly when n's holds and none before it.
 use mathlib.Core.Path.{_≡_, refl, sym, _∙_, ap, subst}
-use mathlib.Core.Logic.{_⊎_, inl, inr, ⊎-elim}
+use mathlib.Core.Logic.{_⊎_, ⊎-elim}
 use mathlib.Core.Bool.{Bool, true, false, cond, not, _||_, true≢false, false≢true}
 use mathlib.Core.List.{List, [], _∷_}
 use Prim.Native.Nat.{ℕ, zero, suc, _<_, _≤_}
-use native.Mathlib.Nat.{le-antisymm, le-step, le-of-suc-le-suc, not-suc-le-zero, lt-suc-self, lt-trans, lt-irrefl, le-refl, eq-or-lt-of-le, suc-ne-zero, lt-of-lt-of-le, le-of-lt}
-use native.Mathlib.Omega.{arith}
+use native.Mathlib.Nat.{le-antisymm, le-step, le-of-suc-le-suc, not-suc-le-zero, lt-suc-self, lt-irrefl, le-refl, eq-or-lt-of-le, le-of-lt}
 use lib.Dec.{ltb, eqb}
-use borrow.Author.Tests.{ltb-true, ltb-false, lt-ltb, le-ltb, eqb-true, eqb-false, eq-eqb, ne-eqb, not-true}
+use borrow.Author.Tests.{ltb-true, ltb-false, lt-ltb, le-ltb, eqb-true, eq-eqb, ne-eqb, not-true}
 use Rattle.laws.specs.Scan.{some-below, some-found, first, total, twice}
 use Rattle.image.specs.Layout.{countOf}
 use Rattle.image.specs.Fields.{vlanid, portVlanid, sharindx, partSpc, index}
 use Rattle.lookup.specs.Vlan.{vlanAt}
+use Rattle.promises.specs.First.{Test, test, First, first-is, only-first}
+use Rattle.promises.specs.First as numbered
 use Rattle.rules.specs.Rules.{Rule, rules, firstOf, ruled, vlanTwice, vlanMissing, sharindxBeyond, spaceOver, indexTwice}
 
 -- ---- the paper's rows as predicates
@@ -113,26 +114,19 @@ rule-22 image = (
 
 -- ---- the first one broken
 
--- of some rules, n is the number of the first that the image breaks; 0 where it breaks none
-pub data First : List Rule → List ℕ → ℕ → Type 0 where
-  unbroken : {image : List ℕ} → First [] image 0
-  this : {r : Rule} {rs : List Rule} {image : List ℕ} → r .broken image ≡ true → First (r ∷ rs) image (r .number)
-  later : {r : Rule} {rs : List Rule} {image : List ℕ} {n : ℕ} → r .broken image ≡ false → First rs image n → First (r ∷ rs) image n
+-- some rules as tests of an image
+abbrev pub testsOf : List Rule → List ℕ → List Test
+testsOf [] image = []
+testsOf (r ∷ rs) image = test (r .number) (r .broken image) ∷ testsOf rs image
 
-pub first-is : (rs : List Rule) (image : List ℕ) → First rs image (firstOf rs image)
-first-is [] image = unbroken
-first-is (r ∷ rs) image = go (first-is rs image) (r .broken image) refl
-  where
-    go : First rs image (firstOf rs image) → (b : Bool) → r .broken image ≡ b → First (r ∷ rs) image (cond b (r .number) (firstOf rs image))
-    go rest true e = this e
-    go rest false e = later e rest
-
-pub only-first : {rs : List Rule} {image : List ℕ} {n : ℕ} → First rs image n → n ≡ firstOf rs image
-only-first unbroken = refl
-only-first (this {r} {rs} {image} e) = sym (ap (λ (b : Bool). cond b (r .number) (firstOf rs image)) e)
-only-first (later {r} {rs} {image} e f) = only-first f ∙ sym (ap (λ (b : Bool). cond b (r .number) (firstOf rs image)) e)
+same-number : (rs : List Rule) (image : List ℕ) → numbered.firstOf (testsOf rs image) ≡ firstOf rs image
+same-number [] image = refl
+same-number (r ∷ rs) image = ap (λ (n : ℕ). cond (r .broken image) (r .number) n) (same-number rs image)
 
 -- "refused exactly when a rule there is broken, and with the first one broken"
-pub first-broken-rule : (image : List ℕ) → First rules image (ruled image) × ((n : ℕ) → First rules image n → n ≡ ruled image)
+pub first-broken-rule : (image : List ℕ) → First (testsOf rules image) (ruled image) × ((n : ℕ) → First (testsOf rules image) n → n ≡ ruled image)
 unfolding ruled
-first-broken-rule image = (first-is rules image, λ n f. only-first f)
+first-broken-rule image = (
+  subst (First (testsOf rules image)) (same-number rules image) (first-is (testsOf rules image)),
+  λ n f. only-first f ∙ same-number rules image,
+)
