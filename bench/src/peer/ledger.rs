@@ -52,13 +52,14 @@ pub fn out_of_range(image: &Image, ledger: &FlatLedger) -> bool {
     }
     let policing: &[[u32; 2]; 45] = image[BASE[POLICING]..].as_chunks().0.first_chunk().unwrap();
     let loaded = count(image, POLICING).min(45);
-    for (entry, credit) in policing[..loaded].iter().zip(&ledger.credit) {
+    let (credits, credits_behind) = ledger.credit.split_at(loaded);
+    let (sinces, sinces_behind) = ledger.since.split_at(loaded);
+    for ((entry, credit), since) in policing.iter().zip(credits).zip(sinces) {
         above |= most_credit(entry[1]).wrapping_sub(*credit) | credit;
+        above |= ledger.last.wrapping_sub(*since) | since;
     }
-    for credit in &ledger.credit[loaded..] {
+    for (credit, since) in credits_behind.iter().zip(sinces_behind) {
         above |= 0u64.wrapping_sub(*credit) | credit;
-    }
-    for since in &ledger.since {
         above |= ledger.last.wrapping_sub(*since) | since;
     }
     let mut bad = above >> 63 != 0 || ledger.last > LAST_TIME;

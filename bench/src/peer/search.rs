@@ -1,16 +1,23 @@
 //! Linear searches in groups: the flags of a group are or-ed, and only a group that hits is looked at one by one.
 
-/// The first VLAN entry with this VLANID.
+/// VLANID 38:27 of 07, where it stands.
+const VLAN_MASK: u64 = 0xFFF << 27;
+
+/// The first VLAN entry with this VLANID. The top bit of a sum says "some difference was 0": a difference is below 2^39.
 #[inline(always)]
 pub fn first_vlan(entries: &[[u32; 2]], vlan: u32) -> Option<usize> {
-    let is = |entry: &[u32; 2]| super::image::vlan_id(entry) == vlan;
+    let key = u64::from(vlan) << 27;
+    let difference = |entry: &[u32; 2]| {
+        ((u64::from(entry[0]) | u64::from(entry[1]) << 32) ^ key) & VLAN_MASK
+    };
+    let is = |entry: &[u32; 2]| difference(entry) == 0;
     let (groups, rest) = entries.as_chunks::<16>();
     for (number, group) in groups.iter().enumerate() {
-        let mut hit = false;
+        let mut some = 0;
         for entry in group {
-            hit |= is(entry);
+            some |= difference(entry).wrapping_sub(1);
         }
-        if hit {
+        if some >> 63 == 1 {
             return Some(16 * number + group.iter().position(is)?);
         }
     }
