@@ -163,6 +163,32 @@ pub fn write(image: &mut [u32], load: &mut FlatLoad, words: &[u32]) -> u32 {
     if load.phase == TOLD {
         return load.told;
     }
+    // Mostly a write has data of one block alone.
+    if load.phase == DATA && words.len() as u64 <= load.due {
+        fill(image, load, words);
+        return MORE;
+    }
+    write_across(image, load, words)
+}
+
+/// Data words that the block has room for.
+#[inline(always)]
+fn fill(image: &mut Image, load: &mut FlatLoad, data: &[u32]) {
+    let place = place_of(image, load.table as usize) + load.placed as usize;
+    load.placed += data.len() as u64;
+    load.due -= data.len() as u64;
+    if let [one] = data {
+        image[place] = *one;
+        (load.stream, load.block) = (word(load.stream, *one), word(load.block, *one));
+        return;
+    }
+    let to = &mut image[place..place + data.len()];
+    (load.stream, load.block) = copy_in(data, to, load.stream, load.block);
+}
+
+/// A write with more than data of one block.
+#[inline(never)]
+fn write_across(image: &mut Image, load: &mut FlatLoad, words: &[u32]) -> u32 {
     let answer = take(image, load, words);
     if answer != MORE {
         *load = FlatLoad { phase: TOLD, told: answer, ..FlatLoad::default() };
@@ -188,14 +214,8 @@ fn take(image: &mut Image, load: &mut FlatLoad, words: &[u32]) -> u32 {
     }
     while !rest.is_empty() {
         if load.phase == DATA && load.due > 0 {
-            let table = load.table as usize;
-            let place = place_of(image, table) + load.placed as usize;
-            let now = rest.len().min(load.due as usize);
-            let (data, behind) = rest.split_at(now);
-            let to = &mut image[place..place + now];
-            (load.stream, load.block) = copy_in(data, to, load.stream, load.block);
-            load.placed += now as u64;
-            load.due -= now as u64;
+            let (data, behind) = rest.split_at(rest.len().min(load.due as usize));
+            fill(image, load, data);
             rest = behind;
             continue;
         }
