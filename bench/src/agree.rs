@@ -342,10 +342,8 @@ fn released(
     partition: usize,
 ) -> Result<Ledger, String> {
     let (mut ours, mut peer) = (flat(&ledger), flat(&ledger));
-    let told = [
-        (OURS.release)(image, &mut ours, partition),
-        (PEER.release)(image, &mut peer, partition),
-    ];
+    let told =
+        [(OURS.release)(image, &mut ours, partition), (PEER.release)(image, &mut peer, partition)];
     let (answer, after) = judge::release(image, ledger, narrow(partition));
     let number = match answer {
         ReleaseAnswer::Refused(number) => number,

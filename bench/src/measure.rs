@@ -4,10 +4,11 @@ use std::time::{Duration, Instant};
 
 use crate::works::Work;
 
-const ROUNDS: usize = 31;
+/// Many short rounds: on a machine that does other work too, most of them are not broken into.
+pub const ROUNDS: usize = 101;
 
 /// A side's time a round, at least.
-const LEAST: Duration = Duration::from_millis(2);
+const LEAST: Duration = Duration::from_micros(400);
 
 pub struct Measured {
     pub name: String,

@@ -76,7 +76,7 @@ fn put_addresses(rng: &mut Rng, lists: &mut Lists, many: usize, place: Place) {
     let mut indexes: Vec<u64> = (0..1024).collect();
     rng.shuffle(&mut indexes);
     let first = if place == Place::First { 0 } else { many.saturating_sub(2) };
-    for number in 0..many {
+    for (number, &index) in indexes[..many].iter().enumerate() {
         let address = match number.wrapping_sub(first) {
             0 => A,
             1 => B,
@@ -87,7 +87,7 @@ fn put_addresses(rng: &mut Rng, lists: &mut Lists, many: usize, place: Place) {
         lists.put(address_lookup::MACADDR, number, address);
         lists.put(address_lookup::DESTPORTS, number, 31);
         lists.put(address_lookup::ENFPORT, number, 1);
-        lists.put(address_lookup::INDEX, number, indexes[number]);
+        lists.put(address_lookup::INDEX, number, index);
     }
 }
 
@@ -165,9 +165,7 @@ fn whole_bytes(words: &[u32]) -> Vec<(&'static str, Side)> {
 fn writes(words: &[u32], length: usize) -> Vec<(&'static str, Side)> {
     both(|program| {
         let words = words.to_vec();
-        loading(program, move |program, image| {
-            in_writes(program, image, black_box(&words), length)
-        })
+        loading(program, move |program, image| in_writes(program, image, black_box(&words), length))
     })
 }
 

@@ -157,7 +157,9 @@ fn steps(
     *units -= 1;
     let q = own >> (25 + 3 * priority) & 7;
     let outputs = forwarding(image, 5 + q as usize);
-    let queue = |output: usize| outputs >> (25 + 3 * output) & 7 & (ports >> output & 1).wrapping_neg() as u64;
+    let queue = |output: usize| {
+        outputs >> (25 + 3 * output) & 7 & (ports >> output & 1).wrapping_neg() as u64
+    };
     Ok(FlatVerdict {
         kind: 2,
         number: 0,

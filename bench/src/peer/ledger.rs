@@ -66,7 +66,8 @@ pub fn out_of_range(image: &Image, ledger: &FlatLedger) -> bool {
     for port in 0..5 {
         let (frames, drops) = (ledger.frames[port], ledger.drops[port]);
         let (octets, dropped) = (ledger.octets[port], ledger.dropped[port]);
-        bad |= (drops > frames) | (dropped > octets) | unfit(octets, frames) | unfit(dropped, drops);
+        bad |=
+            (drops > frames) | (dropped > octets) | unfit(octets, frames) | unfit(dropped, drops);
     }
     bad
 }

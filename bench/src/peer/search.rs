@@ -7,9 +7,8 @@ const VLAN_MASK: u64 = 0xFFF << 27;
 #[inline(always)]
 pub fn first_vlan(entries: &[[u32; 2]], vlan: u32) -> Option<usize> {
     let key = u64::from(vlan) << 27;
-    let difference = |entry: &[u32; 2]| {
-        ((u64::from(entry[0]) | u64::from(entry[1]) << 32) ^ key) & VLAN_MASK
-    };
+    let difference =
+        |entry: &[u32; 2]| ((u64::from(entry[0]) | u64::from(entry[1]) << 32) ^ key) & VLAN_MASK;
     let is = |entry: &[u32; 2]| difference(entry) == 0;
     let (groups, rest) = entries.as_chunks::<16>();
     for (number, group) in groups.iter().enumerate() {
