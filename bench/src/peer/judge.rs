@@ -60,11 +60,25 @@ pub fn judge(
     }
 }
 
-/// Six bytes as a number, and the bytes behind them.
+/// Six bytes as a number, the first highest.
 #[inline(always)]
 fn address(bytes: &[u8; 6]) -> u64 {
     let [a, b, c, d, e, f] = *bytes;
     u64::from_be_bytes([0, 0, a, b, c, d, e, f])
+}
+
+/// What steps 7 to 11 need of a frame that steps 1 to 6 let by.
+struct Passed<'a> {
+    octets: u64,
+    priority: usize,
+    vlan: u32,
+    /// VMEMB_PORT, VLAN_BC and TAG_PORT of the VLAN, each in the low five bits.
+    members: u32,
+    broadcasts: u32,
+    tags: u32,
+    destination: u64,
+    addresses: &'a [[u32; 3]],
+    shared_learn: bool,
 }
 
 #[inline(always)]
@@ -75,6 +89,14 @@ fn steps(
     time: u64,
     frame: &[u8],
 ) -> Result<FlatVerdict, u32> {
+    let passed = receive(image, port, frame)?;
+    let entry = police(image, ledger, port, time, &passed)?;
+    send(image, ledger, port, entry, &passed)
+}
+
+/// Drops 1 to 6.
+#[inline(always)]
+fn receive<'a>(image: &'a Image, port: usize, frame: &[u8]) -> Result<Passed<'a>, u32> {
     let octets = frame.len() as u64 + 4;
     let Some(head) = frame.first_chunk::<60>() else {
         return Err(1);
@@ -97,56 +119,102 @@ fn steps(
     let Some(place) = first_vlan(entries(image, VLANS), vlan) else {
         return Err(4);
     };
-    let vlan_word = (vlan_entry(image, place) >> 39) as u32;
-    let (members, broadcasts, tags) = (vlan_word >> 10, vlan_word >> 5, vlan_word);
+    let tags = (vlan_entry(image, place) >> 39) as u32;
+    let (members, broadcasts) = (tags >> 10, tags >> 5);
     if tagged && members >> port & 1 == 0 {
         return Err(5);
     }
     let addresses = entries::<3>(image, ADDRESSES);
     let shared_learn = count(image, LOOKUP) == 1 && image[BASE[LOOKUP]] >> 5 & 1 == 1;
     let source = address(head[6..].first_chunk().unwrap());
-    let mut elsewhere = false;
-    each_match(addresses, Key::new(source, vlan, shared_learn), |entry| {
-        elsewhere = entry[0] >> 30 & 1 == 1 && dest_ports(entry) >> port & 1 == 0;
-        elsewhere
-    });
-    if elsewhere {
+    if enforced_elsewhere(addresses, Key::new(source, vlan, shared_learn), port) {
         return Err(6);
     }
     let destination = address(head.first_chunk().unwrap());
-    let broadcast = destination == BROADCAST;
-    let k = if broadcast { 40 + port } else { 8 * port + priority };
+    Ok(Passed {
+        octets,
+        priority,
+        vlan,
+        members,
+        broadcasts,
+        tags,
+        destination,
+        addresses,
+        shared_learn,
+    })
+}
+
+/// Some entry enforces this source and lacks the port.
+#[inline(always)]
+fn enforced_elsewhere(addresses: &[[u32; 3]], source: Key, port: usize) -> bool {
+    let mut elsewhere = false;
+    each_match(addresses, source, |entry| {
+        elsewhere = entry[0] >> 30 & 1 == 1 && dest_ports(entry) >> port & 1 == 0;
+        elsewhere
+    });
+    elsewhere
+}
+
+/// Drops 7 to 9; gives policing entry k.
+#[inline(always)]
+fn police(
+    image: &Image,
+    ledger: &mut FlatLedger,
+    port: usize,
+    time: u64,
+    passed: &Passed,
+) -> Result<u64, u32> {
+    let broadcast = passed.destination == BROADCAST;
+    let k = if broadcast { 40 + port } else { 8 * port + passed.priority };
     let loaded = count(image, POLICING);
     let entry = policing(image, k);
     let meter = (entry >> 58) as usize;
     if k >= loaded || meter >= loaded {
         return Err(7);
     }
-    if octets > entry >> 15 & 0x7FF {
+    if passed.octets > entry >> 15 & 0x7FF {
         return Err(8);
     }
-    if !pays(policing(image, meter), ledger, meter, time, octets) {
+    if !pays(policing(image, meter), ledger, meter, time, passed.octets) {
         return Err(9);
     }
+    Ok(entry)
+}
+
+/// Before any cut but VLAN_BC: the broadcast domain, the match's ports, or flooding.
+#[inline(always)]
+fn wanted(own: u64, passed: &Passed) -> u32 {
+    if passed.destination == BROADCAST {
+        return (own >> 59) as u32 & passed.broadcasts;
+    }
+    let (mut ports, mut lowest) = ((own >> 49) as u32, u32::MAX);
+    let key = Key::new(passed.destination, passed.vlan, passed.shared_learn);
+    each_match(passed.addresses, key, |entry| {
+        let index = entry[0] >> 20 & 0x3FF;
+        if index < lowest {
+            (ports, lowest) = (dest_ports(entry), index);
+        }
+        false
+    });
+    ports
+}
+
+/// Drops 10 and 11; a sent frame takes a unit.
+#[inline(always)]
+fn send(
+    image: &Image,
+    ledger: &mut FlatLedger,
+    port: usize,
+    entry: u64,
+    passed: &Passed,
+) -> Result<FlatVerdict, u32> {
     let own = forwarding(image, port);
-    let wanted = if broadcast {
-        (own >> 59) as u32 & broadcasts
-    } else {
-        let (mut ports, mut lowest) = ((own >> 49) as u32, u32::MAX);
-        each_match(addresses, Key::new(destination, vlan, shared_learn), |entry| {
-            let index = entry[0] >> 20 & 0x3FF;
-            if index < lowest {
-                (ports, lowest) = (dest_ports(entry), index);
-            }
-            false
-        });
-        ports
-    };
     let mut egress = 0;
     for output in 0..5 {
         egress |= (mac(image, output) >> 2 & 1) << output;
     }
-    let ports = wanted & (own >> 54) as u32 & members & egress & !(1 << port) & 31;
+    let reach = (own >> 54) as u32;
+    let ports = wanted(own, passed) & reach & passed.members & egress & !(1 << port) & 31;
     if ports == 0 {
         return Err(10);
     }
@@ -155,18 +223,19 @@ fn steps(
         return Err(11);
     }
     *units -= 1;
-    let q = own >> (25 + 3 * priority) & 7;
+    let q = own >> (25 + 3 * passed.priority) & 7;
     let outputs = forwarding(image, 5 + q as usize);
     let queue = |output: usize| {
-        outputs >> (25 + 3 * output) & 7 & (ports >> output & 1).wrapping_neg() as u64
+        let sent = u64::from((ports >> output & 1).wrapping_neg());
+        outputs >> (25 + 3 * output) & 7 & sent
     };
     Ok(FlatVerdict {
         kind: 2,
         number: 0,
         ports: ports.into(),
-        vlan: vlan.into(),
+        vlan: passed.vlan.into(),
         priority: q,
-        tags: (ports & tags).into(),
+        tags: (ports & passed.tags).into(),
         queues: std::array::from_fn(queue),
     })
 }
