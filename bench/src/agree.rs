@@ -1,14 +1,18 @@
 //! Before any timing: Tailbow, the peer and the second program give equal answers, images, verdicts and ledgers.
 
+use cases::case::Case;
 use cases::damage::{flip, rearranged};
 use cases::edit::{edited_image, edited_ledger};
 use cases::generate::{later, random_config, random_frame, Profile};
 use cases::rng::Rng;
+use cases::{boundaries, check};
 use reference::image::of_lists;
 use reference::judge::{self, FrameAnswer, ReleaseAnswer};
 use reference::ledger::{self, Ledger};
+use reference::list::{Next, Reader, Record};
 use reference::load::{self, LoadAnswer, LoadState};
-use reference::stream::{bytes_of, plain_stream, Lists};
+use reference::stream::{bytes_of, plain_stream, words_of, Lists};
+use reference::tables::{address_lookup, Table};
 use reference::tile::{self, TileAnswer};
 use reference::{crc, k};
 
@@ -16,7 +20,7 @@ use crate::flat::*;
 use crate::marks;
 use crate::ours::OURS;
 use crate::peer::PEER;
-use crate::works::{full_frame, k_frames, lists, Place, Sizes, FULL};
+use crate::works::{self, full_frame, k_frames, lists, Place, Sizes, FULL};
 
 /// How many configurations, and how many damaged streams of each.
 const CONFIGS: usize = 60;
@@ -64,6 +68,11 @@ pub fn all() -> Result<Agreed, String> {
     let mut agreed = Agreed::default();
     let mut rng = Rng::new(801);
     measured(&mut agreed, &mut rng)?;
+    twins(&mut agreed)?;
+    let boundaries = boundaries::cases(&mut rng);
+    for case in check::named().iter().chain(&boundaries) {
+        one_case(&mut agreed, case).map_err(|failure| format!("{}: {failure}", case.name))?;
+    }
     for number in 0..CONFIGS {
         let profile = match number % 10 {
             0..=3 => Profile::Near,
@@ -131,6 +140,65 @@ fn frames_of(agreed: &mut Agreed, config: &Lists) -> Checked {
         ledger = released(agreed, &image, ledger, 0)?;
         from += 30;
         ledger = judged(agreed, &image, ledger, 0, from, &full_frame())?;
+        shown(agreed, &image, &ledger, 0)?;
+    }
+    Ok(())
+}
+
+/// Two matches with one INDEX, as only an edited image has them: the first counts.
+fn twins(agreed: &mut Agreed) -> Checked {
+    let mut config = lists(Sizes { vlans: 1, addresses: 40, policing: 45 }, Place::First);
+    for number in [3, 39] {
+        for field in [address_lookup::MACADDR, address_lookup::INDEX] {
+            let of_first = config.get(field, 0);
+            config.put(field, number, of_first);
+        }
+        config.put(address_lookup::DESTPORTS, number, 2);
+    }
+    let image = of_lists(&config);
+    let ledger = fresh(agreed, &image)?.ok_or("an edited image is not loaded")?;
+    judged(agreed, &image, ledger, 0, 10, &full_frame())?;
+    config.of_mut(Table::L2AddressLookup).swap(0, 39);
+    judged(agreed, &of_lists(&config), ledger, 0, 10, &full_frame())?;
+    Ok(())
+}
+
+/// A case of the tests, at both sides of the paper's limits: its stream, and its list where that is loaded.
+fn one_case(agreed: &mut Agreed, case: &Case) -> Checked {
+    let buffer = vec![0xA5A5_A5A5; IMAGE_WORDS];
+    let (mut ours, mut peer, mut image) = (buffer.clone(), buffer.clone(), buffer);
+    let stream = &case.stream;
+    let told = [(OURS.load_bytes)(&mut ours, stream), (PEER.load_bytes)(&mut peer, stream)];
+    let answer = number_of(load::load_bytes(&mut image, stream));
+    same("load of bytes", &told[0], &told[1], &answer)?;
+    same_buffers("load of bytes", &ours, &peer, &image)?;
+    let words = words_of(stream);
+    if stream.len() % 4 == 0 {
+        let told = [(OURS.load_words)(&mut ours, &words), (PEER.load_words)(&mut peer, &words)];
+        same("load of words", &told[0], &told[1], &answer)?;
+        same_buffers("load of words", &ours, &peer, &image)?;
+        let expected = if answer == 10 { MORE } else { answer };
+        for length in [64, 1] {
+            let told = [(&OURS, &mut ours), (&PEER, &mut peer)]
+                .map(|(program, image)| works::in_writes(program, image, &words, length));
+            same("writes", &told[0], &told[1], &expected)?;
+        }
+    }
+    agreed.loads += 1;
+    if answer != 0 {
+        return Ok(());
+    }
+    let mut ledger = fresh(agreed, &image)?.ok_or("a loaded image is not loaded")?;
+    let Ok(mut reader) = Reader::open(&case.list, false) else {
+        return Ok(());
+    };
+    while let Next::Record(record) = reader.next_record() {
+        ledger = match record {
+            Record::Frame { port, time, bytes } => {
+                judged(agreed, &image, ledger, port.into(), time, bytes)?
+            }
+            Record::Release { partition } => released(agreed, &image, ledger, partition.into())?,
+        };
         shown(agreed, &image, &ledger, 0)?;
     }
     Ok(())
