@@ -1,0 +1,144 @@
+//! Tailbow: the proved entries of the archive, behind the calls that both programs have.
+
+use crate::flat::{FlatLedger, FlatLoad, FlatOutcome, FlatTile, FlatVerdict, Program};
+
+pub const OURS: Program =
+    Program { load_words, load_bytes, write, fresh_ledger, judge, release, tile };
+
+mod linked {
+    use crate::flat::{FlatLedger, FlatLoad, FlatOutcome, FlatTile, FlatVerdict};
+
+    #[repr(C)]
+    pub struct FlatWrote {
+        pub answer: u32,
+        pub load: FlatLoad,
+    }
+
+    #[repr(C)]
+    #[allow(dead_code)]
+    pub struct FlatJudged {
+        pub verdict: FlatVerdict,
+        pub ledger: FlatLedger,
+    }
+
+    #[allow(dead_code)]
+    extern "C" {
+        pub fn tailbow_write(
+            image: *mut u32,
+            image_words: usize,
+            load: FlatLoad,
+            words: *const u32,
+            count: usize,
+        ) -> FlatWrote;
+        pub fn tailbow_load_words(
+            image: *mut u32,
+            image_words: usize,
+            words: *const u32,
+            count: usize,
+        ) -> u32;
+        pub fn tailbow_load_bytes(
+            image: *mut u32,
+            image_words: usize,
+            bytes: *const u8,
+            count: usize,
+        ) -> u32;
+        pub fn tailbow_fresh_ledger(image: *const u32, words: usize) -> FlatOutcome;
+        pub fn tailbow_judge(
+            image: *const u32,
+            words: usize,
+            ledger: FlatLedger,
+            port: usize,
+            time: u64,
+            frame: *const u8,
+            bytes: usize,
+        ) -> FlatJudged;
+        pub fn tailbow_judge_lent(
+            image: *const u32,
+            words: usize,
+            ledger: *mut FlatLedger,
+            port: usize,
+            time: u64,
+            frame: *const u8,
+            bytes: usize,
+        ) -> FlatVerdict;
+        pub fn tailbow_release(
+            image: *const u32,
+            words: usize,
+            ledger: FlatLedger,
+            partition: usize,
+        ) -> FlatOutcome;
+        pub fn tailbow_tile(
+            image: *const u32,
+            words: usize,
+            ledger: FlatLedger,
+            port: usize,
+        ) -> FlatTile;
+    }
+}
+
+fn load_words(image: &mut [u32], words: &[u32]) -> u32 {
+    let (lent, length) = (image.as_mut_ptr(), image.len());
+    unsafe { linked::tailbow_load_words(lent, length, words.as_ptr(), words.len()) }
+}
+
+fn load_bytes(image: &mut [u32], bytes: &[u8]) -> u32 {
+    let (lent, length) = (image.as_mut_ptr(), image.len());
+    unsafe { linked::tailbow_load_bytes(lent, length, bytes.as_ptr(), bytes.len()) }
+}
+
+/// The state goes in and comes back by value.
+fn write(image: &mut [u32], load: &mut FlatLoad, words: &[u32]) -> u32 {
+    let (lent, length) = (image.as_mut_ptr(), image.len());
+    let wrote = unsafe { linked::tailbow_write(lent, length, *load, words.as_ptr(), words.len()) };
+    *load = wrote.load;
+    wrote.answer
+}
+
+fn fresh_ledger(image: &[u32]) -> FlatOutcome {
+    unsafe { linked::tailbow_fresh_ledger(image.as_ptr(), image.len()) }
+}
+
+/// Which form of the judge was measured.
+pub const JUDGE_FORM: &str = if cfg!(judge_lent) { "ledger by &mut" } else { "ledger by value" };
+
+/// The one place that knows the form: the `&mut` form where the archive has it.
+#[cfg(judge_lent)]
+fn judge(
+    image: &[u32],
+    ledger: &mut FlatLedger,
+    port: usize,
+    time: u64,
+    frame: &[u8],
+) -> FlatVerdict {
+    let (lent, words) = (image.as_ptr(), image.len());
+    let (bytes, count) = (frame.as_ptr(), frame.len());
+    unsafe { linked::tailbow_judge_lent(lent, words, ledger, port, time, bytes, count) }
+}
+
+#[cfg(not(judge_lent))]
+fn judge(
+    image: &[u32],
+    ledger: &mut FlatLedger,
+    port: usize,
+    time: u64,
+    frame: &[u8],
+) -> FlatVerdict {
+    let (lent, words) = (image.as_ptr(), image.len());
+    let (bytes, count) = (frame.as_ptr(), frame.len());
+    let judged = unsafe { linked::tailbow_judge(lent, words, *ledger, port, time, bytes, count) };
+    *ledger = judged.ledger;
+    judged.verdict
+}
+
+/// By value, as the entry is.
+fn release(image: &[u32], ledger: &mut FlatLedger, partition: usize) -> u32 {
+    let (lent, words) = (image.as_ptr(), image.len());
+    let outcome = unsafe { linked::tailbow_release(lent, words, *ledger, partition) };
+    *ledger = outcome.ledger;
+    outcome.number
+}
+
+/// By value, as the entry is.
+fn tile(image: &[u32], ledger: &FlatLedger, port: usize) -> FlatTile {
+    unsafe { linked::tailbow_tile(image.as_ptr(), image.len(), *ledger, port) }
+}
