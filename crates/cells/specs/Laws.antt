@@ -1,14 +1,14 @@
--- A load from the cells and a store into them, over a part's start and length; and that the cells are determined by their ledger.
+-- A load from the cells and a store into them, over a part's start and length.
 use mathlib.Core.Path.{_≡_, refl, sym, _∙_, ap, subst}
 use mathlib.Core.Logic.{_⊎_, inl, inr}
 use mathlib.Core.Bool.{Bool, true, false, cond, not}
-use mathlib.Core.List.{List, [], _∷_, _++_}
+use mathlib.Core.List.{List}
 use Prim.Native.Nat.{ℕ, _+_, _-_, _*_, _<_, _≤_}
 use native.Mathlib.Nat.{zero-add}
 use native.Mathlib.Omega.{arith}
 use lib.Dec.{ltb, leb, eqb, lit≤}
-use lib.ListN.{length, getD, set, take, drop, length-set, length-take, length-drop, take-append-drop, drop-of-length-le}
-use lib.Seq.{drop-set-add, drop-set-lt, take-set-lt, take-set-le, getD-take, getD-drop, getD-set-same, getD-set-other, drop-drop, drop-cons}
+use lib.ListN.{length, getD, set, take, drop, length-set, length-take, length-drop}
+use lib.Seq.{drop-set-add, drop-set-lt, take-set-lt, take-set-le, getD-take, getD-drop, getD-set-same, getD-set-other}
 use borrow.Author.Tests.{ltb-false, leb-true, eqb-true, not-false}
 use Rattle.laws.specs.Chain.{none-first, none-rest}
 use Rattle.ledger.specs.declared.Ledger.{Ledger}
@@ -224,30 +224,3 @@ same-judged e q = λ k. judged (e k) (q k)
 
 pub leaves-as : {j k : Judged} {v : Verdict} {cells : List ℕ} → Leaves j v cells → j ≡ k → Leaves k v cells
 leaves-as l e = record { whole = l .whole ∙ e; all = l .all }
-
--- ---- the cells are determined by their ledger
-
--- a ledger's numbers in a row
-joined : Ledger → List ℕ
-joined g =
-    g .units
-    ++ (g .credit ++ (g .since ++ (g .frames ++ (g .drops ++ (g .octets ++ (g .dropped ++ (g .last ∷ [])))))))
-
--- what is left from a on is a part, and what is left behind it
-cut : (a n : ℕ) (cells rest : List ℕ) → drop (a + n) cells ≡ rest → drop a cells ≡ part a n cells ++ rest
-cut a n cells rest e = sym (take-append-drop n (drop a cells)) ∙ ap (λ (l : List ℕ). part a n cells ++ l) (drop-drop n a cells ∙ e)
-
-in-a-row : (cells : List ℕ) → length cells ≡ cellCount → cells ≡ joined (ledgerIn cells)
-unfolding ledgerIn joined
-in-a-row cells h =
-    cut 0 8 cells _
-    (cut 8 45 cells _
-    (cut 53 45 cells _
-    (cut 98 5 cells _
-    (cut 103 5 cells _
-    (cut 108 5 cells _
-    (cut 113 5 cells _
-    (drop-cons cells 118 0 (omega arith) ∙ ap (λ (l : List ℕ). getD cells 118 0 ∷ l) (drop-of-length-le cells {i = 119} (omega arith)))))))))
-
-pub one-ledger : (a b : List ℕ) → length a ≡ cellCount → length b ≡ cellCount → ledgerIn a ≡ ledgerIn b → a ≡ b
-one-ledger a b h k e = in-a-row a h ∙ ap joined e ∙ sym (in-a-row b k)

@@ -288,3 +288,51 @@ pub fn judge_in(
         passage::pass(image, port, frame),
     )
 }
+
+// 36, 37; 0 where neither refuses.
+fn unreleased_in(image: &[u32], cells: &[u64], partition: usize) -> u32
+    requires { ⌜ Sound (now image) ⌝ }
+    requires { ⌜ length (now cells) ≡ cellCount ⌝ }
+    ensures { λ r. ⌜ r ≡ unreleased (imageIn (now (image .entry))) (ledgerIn (now (cells .entry))) partition ⌝ }
+{
+    if 7 < partition {
+        return 36;
+    }
+    if image::parameters::part_spc(image, partition) <= cells[partition] {
+        return 37;
+    }
+    0
+}
+
+// What refuses a release: 31, 30, 39, 36, 37; 0 where nothing does.
+fn release_refusal_in(image: &[u32], cells: &[u64], partition: usize) -> u32
+    requires { ⌜ length (now cells) ≡ cellCount ⌝ }
+    ensures { λ r. ⌜ r ≡ releaseRefusal (now (image .entry)) (ledgerIn (now (cells .entry))) partition ⌝ }
+{
+    let refused = standing_in(image, cells);
+    if refused != 0 {
+        return refused;
+    }
+    unreleased_in(image, cells, partition)
+}
+
+// One unit more is left.
+fn give_back_in(cells: &mut [u64], partition: usize)
+    requires { ⌜ length (now cells) ≡ cellCount ⌝ }
+    requires { ⌜ Releasable (ledgerIn (now cells)) partition ⌝ }
+    ensures { λ r. ⌜ Holds (released (ledgerIn (now (cells .entry))) partition) (now (cells .exit)) ⌝ }
+{
+    cells[partition] = cells[partition] + 1;
+}
+
+// One unit of a partition comes back; the cells are left as the release leaves them.
+pub fn release_in(image: &[u32], cells: &mut [u64; 119], partition: usize) -> Answer
+    ensures { λ r. ⌜ Released (now (image .entry)) (ledgerIn (now (cells .entry))) partition (outcome r (ledgerIn (now (cells .exit)))) × (length (now (cells .exit)) ≡ cellCount) ⌝ }
+{
+    let refused = release_refusal_in(image, cells, partition);
+    if refused != 0 {
+        return Answer::Refused(refused);
+    }
+    give_back_in(cells, partition);
+    Answer::Done
+}
