@@ -1,9 +1,9 @@
 // 39, and what refuses a call before its own numbers are looked at.
 use crate::Ledger;
 ghost use mathlib.Core.Path.{_≡_};
-ghost use Prim.Native.Nat.{_<_, _*_};
+ghost use Prim.Native.Nat.{_<_, _≤_, _*_};
 ghost use lib.Dec.{ltb};
-ghost use lib.ListN.{getD};
+ghost use lib.ListN.{length, getD};
 ghost use Rattle.image.specs.Layout.{imageIn};
 ghost use Rattle.image.specs.Sound.{Sound};
 ghost use Rattle.ledger.specs.Range.{unitsOver, fullOf, creditOver, octetsOff, countsOff, tilesOff, timesOver, outOfRange, standing};
@@ -12,8 +12,9 @@ ghost use Rattle.ledger.specs.Range.{unitsOver, fullOf, creditOver, octe
 pub const LATEST: u64 = 281474976710655;
 
 // A partition has more units left than its PART_SPC.
-fn units_over(image: &[u32], units: &[u64; 8]) -> bool
+fn units_over(image: &[u32], units: &[u64]) -> bool
     requires { ⌜ Sound (now image) ⌝ }
+    requires { ⌜ 8 ≤ length (now units) ⌝ }
     ensures { λ r. ⌜ r ≡ unitsOver (imageIn (now (image .entry))) (now (units .entry)) ⌝ }
 {
     let mut j: usize = 0;
@@ -38,8 +39,9 @@ pub fn full(image: &[u32], k: usize) -> u64
 }
 
 // A meter holds more than it does when it is full.
-fn credit_over(image: &[u32], credit: &[u64; 45]) -> bool
+fn credit_over(image: &[u32], credit: &[u64]) -> bool
     requires { ⌜ Sound (now image) ⌝ }
+    requires { ⌜ 45 ≤ length (now credit) ⌝ }
     ensures { λ r. ⌜ r ≡ creditOver (imageIn (now (image .entry))) (now (credit .entry)) ⌝ }
 {
     let mut k: usize = 0;
@@ -81,12 +83,8 @@ fn counts_off(frames: u64, drops: u64, octets: u64, dropped: u64) -> bool
     octets < dropped
 }
 
-fn tiles_off<'a>(
-    frames: &'a [u64; 5],
-    drops: &'a [u64; 5],
-    octets: &'a [u64; 5],
-    dropped: &'a [u64; 5],
-) -> bool
+fn tiles_off<'a>(frames: &'a [u64], drops: &'a [u64], octets: &'a [u64], dropped: &'a [u64]) -> bool
+    requires { ⌜ (5 ≤ length (now frames)) × (5 ≤ length (now drops)) × (5 ≤ length (now octets)) × (5 ≤ length (now dropped)) ⌝ }
     ensures { λ r. ⌜ r ≡ tilesOff (now (frames .entry)) (now (drops .entry)) (now (octets .entry)) (now (dropped .entry)) ⌝ }
 {
     let mut p: usize = 0;
@@ -100,7 +98,8 @@ fn tiles_off<'a>(
 }
 
 // A meter was set after the last time.
-fn times_over(since: &[u64; 45], last: u64) -> bool
+fn times_over(since: &[u64], last: u64) -> bool
+    requires { ⌜ 45 ≤ length (now since) ⌝ }
     ensures { λ r. ⌜ r ≡ timesOver (now (since .entry)) last ⌝ }
 {
     let mut k: usize = 0;
@@ -113,25 +112,55 @@ fn times_over(since: &[u64; 45], last: u64) -> bool
     false
 }
 
+// 39, over a ledger's parts where they lie: in a `Ledger`, or among numbers that are lent.
+pub fn parts_over<'a>(
+    image: &[u32],
+    units: &'a [u64],
+    credit: &'a [u64],
+    since: &'a [u64],
+    frames: &'a [u64],
+    drops: &'a [u64],
+    octets: &'a [u64],
+    dropped: &'a [u64],
+    last: u64,
+) -> bool
+    requires { ⌜ Sound (now image) ⌝ }
+    requires { ⌜ (8 ≤ length (now units)) × (45 ≤ length (now credit)) × (45 ≤ length (now since)) ⌝ }
+    requires { ⌜ (5 ≤ length (now frames)) × (5 ≤ length (now drops)) × (5 ≤ length (now octets)) × (5 ≤ length (now dropped)) ⌝ }
+    ensures { λ r. ⌜ r ≡ outOfRange (imageIn (now (image .entry))) (record { units = now (units .entry); credit = now (credit .entry); since = now (since .entry); frames = now (frames .entry); drops = now (drops .entry); octets = now (octets .entry); dropped = now (dropped .entry); last = last }) ⌝ }
+{
+    if units_over(image, units) {
+        return true;
+    }
+    if credit_over(image, credit) {
+        return true;
+    }
+    if tiles_off(frames, drops, octets, dropped) {
+        return true;
+    }
+    if times_over(since, last) {
+        return true;
+    }
+    LATEST < last
+}
+
 // 39
 pub fn out_of_range(image: &[u32], ledger: Ledger) -> bool
     requires { ⌜ Sound (now image) ⌝ }
     ensures { λ r. ⌜ r ≡ outOfRange (imageIn (now (image .entry))) ledger ⌝ }
 {
     let g = ledger;
-    if units_over(image, &g.units) {
-        return true;
-    }
-    if credit_over(image, &g.credit) {
-        return true;
-    }
-    if tiles_off(&g.frames, &g.drops, &g.octets, &g.dropped) {
-        return true;
-    }
-    if times_over(&g.since, g.last) {
-        return true;
-    }
-    LATEST < g.last
+    parts_over(
+        image,
+        &g.units,
+        &g.credit,
+        &g.since,
+        &g.frames,
+        &g.drops,
+        &g.octets,
+        &g.dropped,
+        g.last,
+    )
 }
 
 // 31, 30, 39; 0 where none of them refuses.

@@ -106,7 +106,7 @@ fn ledger_of(ledger: FlatLedger) -> Ledger
     }
 }
 
-fn outcome_number(answer: Answer) -> u32
+pub fn outcome_number(answer: Answer) -> u32
     ensures { λ r. ⌜ r ≡ numberOf answer ⌝ }
 {
     match answer {
@@ -115,7 +115,7 @@ fn outcome_number(answer: Answer) -> u32
     }
 }
 
-fn flat_verdict(verdict: Verdict) -> FlatVerdict
+pub fn flat_verdict(verdict: Verdict) -> FlatVerdict
     ensures { λ r. ⌜ r ≡ flatVerdict verdict ⌝ }
 {
     match verdict {

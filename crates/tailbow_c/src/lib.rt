@@ -1,5 +1,7 @@
-// The entries for Rust and C: states, ledgers, verdicts and tiles as structs of numbers, answers as numbers, buffers as pointer and length.
+// The entries for Rust and C: states, ledgers, verdicts, tiles and records as structs of numbers, answers as numbers, buffers as pointer and length.
 pub mod frames;
+pub mod lent;
+pub mod lists;
 
 use image::tables::Table;
 use stream::Answer;
