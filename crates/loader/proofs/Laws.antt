@@ -4,8 +4,8 @@ use mathlib.Core.Logic.{_≢_}
 use mathlib.Core.Bool.{Bool, true, false, cond, not, true≢false}
 use mathlib.Core.List.{List, [], _∷_, _++_}
 use mathlib.Core.List.{append-assoc, append-nil}
-use Prim.Native.Nat.{ℕ, suc, _+_, _-_, _*_, _/_, _%_, _<_, _≤_}
-use native.Mathlib.Nat.{mul-comm, mul-le-mul-right, add-zero, not-suc-le-zero, le-of-eq}
+use Prim.Native.Nat.{ℕ, zero, suc, _+_, _-_, _*_, _/_, _%_, _<_, _≤_}
+use native.Mathlib.Nat.{mul-comm, mul-le-mul-right, add-zero, not-suc-le-zero, le-of-eq, zero-lt-suc}
 use lib.Dec.{leb, eqb, lit<}
 use native.Mathlib.Omega.{arith}
 use lib.ListN.{length, getD, set, take, drop, replicate, length-set, length-drop, take-append-drop}
@@ -208,6 +208,14 @@ unfolding run
 one-word m [] h = absurd (not-suc-le-zero h)
 one-word m (w ∷ words) h = refl
 
+-- the only word of a write that stands inside a block
+pub only-word : (l : Load) (buffer words : List ℕ) → l .phase ≡ Data → length words ≡ 1
+    → filled (l .table) (l .placed) (l .due) (l .stream) (l .block) buffer (getD words 0 0) ≡ run (at l buffer) words
+unfolding run
+only-word l buffer [] e h = absurd (omega arith)
+only-word l buffer (w ∷ []) e h = at-phase l buffer w Data e
+only-word l buffer (w ∷ v ∷ words) e h = absurd (omega arith)
+
 -- ---- runs in parts
 pub leaves-at : {m : Machine} {r : Load} {b : List ℕ} → Leaves m r b → at r b ≡ m
 leaves-at {m} {r} {b} l = ap (λ (x : Load). at x b) (l .state) ∙ ap (λ (x : List ℕ). at (m .load) x) (l .kept)
@@ -283,6 +291,11 @@ module _ (l : Load) (buffer ws : List ℕ) (short bad out : Bool) (es : short �
 -- 31's test failed: the buffer has room
 pub has-room : (buffer : List ℕ) (short : Bool) → short ≡ tooShort buffer → short ≡ false → imageWords ≤ length buffer
 has-room buffer short e h = ltb-false (length buffer) imageWords (sym e ∙ h)
+
+-- 32's test failed: there is a word
+pub some-word : (n : ℕ) → outside n ≡ false → 0 < n
+some-word zero h = absurd (true≢false h)
+some-word (suc n) h = zero-lt-suc n
 
 -- a begun load runs on its own buffer, a fresh one on the cleared
 pub opened-begun : (l : Load) (buffer : List ℕ) (b : Bool) → b ≡ begun (l .phase) → b ≡ true → at l buffer ≡ opened l buffer

@@ -499,12 +499,21 @@ fn outside(n: usize) -> bool
     64 < n
 }
 
-// A write that no test refuses: its first zeroes the image.
+// A write that no test refuses: its first zeroes the image. Mostly a write has data of one block alone.
 fn opened_run(image: &mut [u32], load: Load, words: &[u32]) -> Load
-    requires { ⌜ (imageWords ≤ length (now image)) × (damaged load (imageIn (now image)) ≡ false) ⌝ }
+    requires { ⌜ (imageWords ≤ length (now image)) × (damaged load (imageIn (now image)) ≡ false) × (0 < length (now words)) ⌝ }
     ensures { λ r. ⌜ Leaves (run (opened load (now (image .entry))) (now (words .entry))) r (now (image .exit)) ⌝ }
 {
     let phase = load.phase;
+    let due = load.due;
+    if let Phase::Data = phase {
+        if words.len() == 1 {
+            return filled(image, load, words[0]);
+        }
+        if words.len() <= due {
+            return data_run(image, load, words);
+        }
+    }
     if is_begun(phase) {
         return run(image, load, words);
     }

@@ -2,7 +2,7 @@
 use mathlib.Core.Path.{_≡_, refl, sym, _∙_, ap, subst}
 use borrow.Author.Needs.{needs}
 use denote.Ref.{now}
-use Rattle.loader.proofs.Laws.{wrote-as, wrote-31, wrote-30, wrote-32, wrote-run, has-room}
+use Rattle.loader.proofs.Laws.{wrote-as, wrote-31, wrote-30, wrote-32, wrote-run, has-room, some-word}
 use Rattle.stream.specs.Machine.{answerOf}
 use Rattle.stream.specs.declared.Load.{Load}
 use Rattle.loader.proofs.write.Statement.{statement}
@@ -21,7 +21,7 @@ write-spec =
     (λ c κs. search needs)
     (λ c. search needs)
     (λ c. let a = c .before .before .before .before .before .before .before .before .before .before .args in wrote-as (a .load) (now (a .image)) (now (a .words)) _ _ _ (wrote-32 (a .load) (now (a .image)) (now (a .words)) (c .before .before .before .before .before .before .too-short .result) (c .before .before .before .damaged .result) (c .before .outside .result) (c .before .before .before .before .before .before .too-short .ensures) (c .before .before .before .damaged .ensures) (c .before .outside .ensures) (c .before .before .before .before .before .if1 .left) (c .before .before .if2 .left) (c .if3 .taken)) refl refl refl)
-    (λ c κs. (has-room (now (c .before .before .before .before .before .before .before .before .before .before .before .args .image)) _ (c .before .before .before .before .before .before .before .too-short .ensures) (c .before .before .before .before .before .before .if1 .left), sym (c .before .before .before .before .damaged .ensures) ∙ c .before .before .before .if2 .left))
+    (λ c κs. (has-room (now (c .before .before .before .before .before .before .before .before .before .before .before .args .image)) _ (c .before .before .before .before .before .before .before .too-short .ensures) (c .before .before .before .before .before .before .if1 .left), sym (c .before .before .before .before .damaged .ensures) ∙ c .before .before .before .if2 .left, some-word _ (sym (c .before .before .outside .ensures) ∙ c .before .if3 .left)))
     (λ c κs. search needs)
     (λ c. c .before .before .before .opened-run .kept .0)
     (λ c. let a = c .before .before .before .before .before .before .before .before .before .before .before .before .before .before .before .args in wrote-as (a .load) (now (a .image)) (now (a .words)) _ _ _ (wrote-run (a .load) (now (a .image)) (now (a .words)) (c .before .before .before .before .before .before .before .before .before .before .before .too-short .result) (c .before .before .before .before .before .before .before .before .damaged .result) (c .before .before .before .before .before .before .outside .result) (c .before .before .before .before .before .before .before .before .before .before .before .too-short .ensures) (c .before .before .before .before .before .before .before .before .damaged .ensures) (c .before .before .before .before .before .before .outside .ensures) (c .before .before .before .before .before .before .before .before .before .before .if1 .left) (c .before .before .before .before .before .before .before .if2 .left) (c .before .before .before .before .before .if3 .left)) (c .answer-of .ensures ∙ ap (λ (l : Load). answerOf (l .phase)) (c .before .before .before .opened-run .ensures .state)) (c .before .before .before .opened-run .ensures .state) (c .before .before .before .opened-run .ensures .kept)))
