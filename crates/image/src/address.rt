@@ -1,7 +1,7 @@
 // L2 Address Lookup, block 05 (the manual's table 10).
 use crate::bits::field;
 ghost use mathlib.Core.Path.{_≡_};
-ghost use Prim.Native.Nat.{_<_};
+ghost use Prim.Native.Nat.{_%_, _<_};
 ghost use Rattle.image.specs.Layout.{Held, imageIn};
 ghost use Rattle.image.specs.Fields.{addressVlanid, macaddr, destports, enfport, index};
 
@@ -23,6 +23,14 @@ pub fn macaddr(image: &[u32], i: usize) -> u64
     ensures { λ r. ⌜ (r ≡ macaddr (imageIn (now (image .entry))) i) × (r < 281474976710656) ⌝ }
 {
     field(image, START, SIZE, i, 83, 36)
+}
+
+// MACADDR's low 28 bits, which lie in one word
+pub fn macaddr_low(image: &[u32], i: usize) -> u64
+    requires { ⌜ Held 0 i (now image) ⌝ }
+    ensures { λ r. ⌜ (r ≡ macaddr (imageIn (now (image .entry))) i % 268435456) × (r < 268435456) ⌝ }
+{
+    field(image, START, SIZE, i, 63, 36)
 }
 
 // DESTPORTS, 35:31

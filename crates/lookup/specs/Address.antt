@@ -11,6 +11,10 @@ use Rattle.image.specs.Fields.{addressVlanid, macaddr, destports, enfport, inde
 abbrev pub holds : ℕ → ℕ → Bool
 holds mask port = eqb (mask / 2 ^ port % 2) 1
 
+-- entry i's address ends in these 28 bits
+abbrev pub likeAddress : List ℕ → ℕ → ℕ → Bool
+likeAddress image key i = eqb (macaddr image i % 268435456) key
+
 -- entry i has the address
 abbrev pub hasAddress : List ℕ → ℕ → ℕ → Bool
 hasAddress image mac i = eqb (macaddr image i) mac

@@ -1,12 +1,12 @@
 -- Laws of a search that looks at a group of entries at once: what is found in the group is found in the scan.
 use mathlib.Core.Path.{_≡_, refl, sym, _∙_, ap, subst}
 use mathlib.Core.Bool.{Bool, true, false, cond, not, _||_, true≢false}
-use Prim.Native.Nat.{ℕ, zero, suc, _+_, _-_, _<_, _≤_}
-use native.Mathlib.Nat.{add-zero, add-suc, le-refl, add-le-add, suc-ne-zero, add-assoc}
+use Prim.Native.Nat.{ℕ, zero, suc, _+_, _-_, _/_, _^_, _<_, _≤_}
+use native.Mathlib.Nat.{add-zero, add-suc}
 use native.Mathlib.Numerals.{add-one}
 use native.Mathlib.Omega.{arith}
+use lib.Bits.{bitAnd, and-shr}
 use lib.Dec.{eqb}
-use borrow.Author.Tests.{ne-eqb}
 use Rattle.laws.specs.Scan.{some-below, some-more, first, first-more, flag}
 use Rattle.lookup.specs.Least.{Leads, leads-keep}
 
@@ -14,34 +14,35 @@ use Rattle.lookup.specs.Least.{Leads, leads-keep}
 abbrev pub from : ℕ → (ℕ → Bool) → ℕ → Bool
 from i p k = p (i + k)
 
--- ---- a count of those that pass, 0 as long as none does
-pub record Tally (p : ℕ → Bool) (k sum : ℕ) : Type 0 where
-  pub counted : eqb sum 0 ≡ not (some-below k p)
-  pub small : sum ≤ k
+-- ---- numbers and-ed, whose top bit is set as long as none passes
+abbrev pub Clear : (ℕ → Bool) → ℕ → ℕ → Type 0
+Clear p k all = all / 2 ^ 31 ≡ flag (not (some-below k p))
 
-pub tally-none : (p : ℕ → Bool) → Tally p 0 0
+pub clear-none : (p : ℕ → Bool) → Clear p 0 2147483648
 unfolding some-below
-tally-none p = record { counted = refl; small = le-refl 0 }
+clear-none p = refl
 
-pub tally-more : (p : ℕ → Bool) (k sum one : ℕ) → Tally p k sum → one ≡ flag (p k) → one ≤ 1 → Tally p (k + 1) (sum + one)
-tally-more p k sum one t e l =
-    record {
-      counted = ap (λ (x : ℕ). eqb (sum + x) 0) e ∙ step sum (some-below k p) (p k) (t .counted) ∙ sym (ap not (some-more k p));
-      small = add-le-add (t .small) l;
-    }
+pub clear-more : (p : ℕ → Bool) (k all one : ℕ) → Clear p k all → one / 2 ^ 31 ≡ flag (not (p k)) → Clear p (k + 1) (bitAnd all one)
+clear-more p k all one c e =
+    and-shr all one 31
+    ∙ ap (λ (x : ℕ). bitAnd x (one / 2 ^ 31)) c
+    ∙ ap (λ (x : ℕ). bitAnd (flag (not (some-below k p))) x) e
+    ∙ both (some-below k p) (p k)
+    ∙ sym (ap (λ (t : Bool). flag (not t)) (some-more k p))
   where
-    step : (sum : ℕ) (t b : Bool) → eqb sum 0 ≡ not t → eqb (sum + flag b) 0 ≡ not (t || b)
-    step sum true true e = ne-eqb (sum + 1) 0 (λ q. suc-ne-zero sum (sym (add-one sum) ∙ q))
-    step sum false true e = ne-eqb (sum + 1) 0 (λ q. suc-ne-zero sum (sym (add-one sum) ∙ q))
-    step sum true false e = ap (λ (m : ℕ). eqb m 0) (add-zero sum) ∙ e
-    step sum false false e = ap (λ (m : ℕ). eqb m 0) (add-zero sum) ∙ e
+    both : (a b : Bool) → bitAnd (flag (not a)) (flag (not b)) ≡ flag (not (a || b))
+    both true true = refl
+    both true false = refl
+    both false true = refl
+    both false false = refl
 
-pub tally-end : (p : ℕ → Bool) (n k sum : ℕ) → k ≡ n → Tally p k sum → not (eqb sum 0) ≡ some-below n p
-tally-end p n k sum e t = ap not (t .counted) ∙ not-not (some-below k p) ∙ ap (λ (x : ℕ). some-below x p) e
+pub clear-end : (p : ℕ → Bool) (n k all : ℕ) → k ≡ n → Clear p k all → eqb (all / 2 ^ 31) 1 ≡ not (some-below n p)
+clear-end p n k all e c =
+    ap (λ (x : ℕ). eqb x 1) c ∙ back (some-below k p) ∙ ap (λ (x : ℕ). not (some-below x p)) e
   where
-    not-not : (b : Bool) → not (not b) ≡ b
-    not-not true = refl
-    not-not false = refl
+    back : (b : Bool) → eqb (flag (not b)) 1 ≡ not b
+    back true = refl
+    back false = refl
 
 -- ---- none of a group
 or-left : (a b : Bool) → a || b ≡ false → a ≡ false
@@ -58,6 +59,11 @@ unfolding some-below
 none-more zero p q f h = refl
 none-more (suc n) p q f h =
     ap (λ (t : Bool). t || q n) (none-more n p q f (or-left (some-below n p) (p n) h)) ∙ f n (or-right (some-below n p) (p n) h)
+
+-- the same from the test's own answer
+pub not-none : (b : Bool) → not b ≡ true → b ≡ false
+not-none true e = absurd (true≢false (sym e))
+not-none false e = refl
 
 -- a scan in two parts
 pub some-parts : (m n : ℕ) (p : ℕ → Bool) → some-below (n + m) p ≡ some-below n p || some-below m (from n p)

@@ -1,18 +1,25 @@
 -- A search of 05 by groups: the match that it holds so far, and what a group without the address has not.
 use mathlib.Core.Path.{_≡_, refl, sym, _∙_, ap}
-use mathlib.Core.Bool.{Bool, true, false, cond, not}
+use mathlib.Core.Bool.{Bool, true, false, cond, not, true≢false}
 use mathlib.Core.List.{List}
-use Prim.Native.Nat.{ℕ}
+use Prim.Native.Nat.{ℕ, _%_}
 use lib.Dec.{eqb}
+use borrow.Author.Tests.{eq-eqb, ne-eqb}
 use Rattle.image.specs.Layout.{countOf}
-use Rattle.image.specs.Fields.{enfport, destports, sharedLearn, addressVlanid, index}
-use Rattle.lookup.specs.Address.{holds, hasAddress, matches, bars}
+use Rattle.image.specs.Fields.{macaddr, enfport, destports, sharedLearn, addressVlanid, index}
+use Rattle.lookup.specs.Address.{holds, likeAddress, hasAddress, matches, bars}
 use Rattle.lookup.specs.Least.{Leads}
 use Rattle.lookup.specs.declared.address.Best.{Best}
 
 -- after i entries: the match with the lowest INDEX and that INDEX, or the count of 05 and 1,024
 abbrev pub Leading : List ℕ → ℕ → ℕ → ℕ → Best → Type 0
 Leading image vlan mac i best = Leads (countOf image 0) 1024 (matches image vlan mac) (index image) i (best .entry) (best .low)
+
+-- an address that ends otherwise is another
+pub no-like : (image : List ℕ) (mac key i : ℕ) → key ≡ mac % 268435456 → likeAddress image key i ≡ false → hasAddress image mac i ≡ false
+no-like image mac key i e h =
+    ne-eqb (macaddr image i) mac
+    (λ q. true≢false (sym (eq-eqb (macaddr image i % 268435456) key (ap (λ (x : ℕ). x % 268435456) q ∙ sym e)) ∙ h))
 
 pub no-match : (image : List ℕ) (vlan mac i : ℕ) → hasAddress image mac i ≡ false → matches image vlan mac i ≡ false
 no-match image vlan mac i h =

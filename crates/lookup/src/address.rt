@@ -1,14 +1,14 @@
 // Entries of 05 for an address: one that bars a source from a port, and the one for a destination.
 ghost use mathlib.Core.Path.{_≡_};
-ghost use mathlib.Core.Bool.{cond, false};
-ghost use Prim.Native.Nat.{_+_, _≤_, _<_};
+ghost use mathlib.Core.Bool.{cond, not, false};
+ghost use Prim.Native.Nat.{_+_, _%_, _≤_, _<_};
 ghost use lib.Dec.{ltb, eqb};
 ghost use lib.ListN.{length};
 ghost use Rattle.image.specs.Layout.{Held, imageWords, imageIn, countOf};
-ghost use Rattle.image.specs.Fields.{sharedLearn, destports, index};
+ghost use Rattle.image.specs.Fields.{sharedLearn, macaddr, destports, index};
 ghost use Rattle.laws.specs.Scan.{some-below};
 ghost use Rattle.lookup.specs.Groups.{from};
-ghost use Rattle.lookup.specs.Address.{holds, hasAddress, matches, bars, barred, destinationAt};
+ghost use Rattle.lookup.specs.Address.{holds, likeAddress, matches, bars, barred, destinationAt};
 ghost use Rattle.lookup.specs.Leading.{Leading};
 
 // Is the port in the mask?
@@ -58,18 +58,32 @@ fn bars(image: &[u32], shared: u64, port: usize, vlan: u64, mac: u64, i: usize) 
     matches(image, shared, vlan, mac, i)
 }
 
-// Has one of entries i to i + 7 the address?
-fn one_has(image: &[u32], mac: u64, i: usize) -> bool
-    requires { ⌜ (imageWords ≤ length (now image)) × (countOf (imageIn (now image)) 0 ≤ 1024) × (i + 8 ≤ countOf (imageIn (now image)) 0) ⌝ }
-    ensures { λ r. ⌜ r ≡ some-below 8 (from i (hasAddress (imageIn (now (image .entry))) mac)) ⌝ }
+// The low 28 bits of entry i's MACADDR, and of the address that is looked for: four go side by side.
+fn short(image: &[u32], i: usize) -> u32
+    requires { ⌜ Held 0 i (now image) ⌝ }
+    ensures { λ r. ⌜ (r ≡ macaddr (imageIn (now (image .entry))) i % 268435456) × (r < 268435456) ⌝ }
 {
-    let mut found: u64 = 0;
+    image::address::macaddr_low(image, i) as u32
+}
+
+fn key_of(mac: u64) -> u32
+    ensures { λ r. ⌜ (r ≡ mac % 268435456) × (r < 268435456) ⌝ }
+{
+    (mac % 268435456) as u32
+}
+
+// Do the low bits of none of entries i to i + 15 match?
+fn none_like(image: &[u32], key: u32, i: usize) -> bool
+    requires { ⌜ (imageWords ≤ length (now image)) × (countOf (imageIn (now image)) 0 ≤ 1024) × (i + 16 ≤ countOf (imageIn (now image)) 0) × (key < 268435456) ⌝ }
+    ensures { λ r. ⌜ r ≡ not (some-below 16 (from i (likeAddress (imageIn (now (image .entry))) key))) ⌝ }
+{
+    let mut all: u32 = 2147483648;
     let mut k: usize = 0;
-    while k < 8 {
-        found += crate::same(image::address::macaddr(image, i + k), mac);
+    while k < 16 {
+        all = all & crate::apart(short(image, i + k), key);
         k += 1;
     }
-    found != 0
+    all >> 31 == 1
 }
 
 // Does one of `count` entries from i on keep this source from this port?
@@ -96,16 +110,16 @@ fn one_bars(
     false
 }
 
-// The same for eight entries: where none has the address, none bars.
+// The same for sixteen entries: where none is like the address, none bars.
 fn group_bars(image: &[u32], shared: u64, port: usize, vlan: u64, mac: u64, i: usize) -> bool
-    requires { ⌜ (imageWords ≤ length (now image)) × (countOf (imageIn (now image)) 0 ≤ 1024) × (i + 8 ≤ countOf (imageIn (now image)) 0) ⌝ }
+    requires { ⌜ (imageWords ≤ length (now image)) × (countOf (imageIn (now image)) 0 ≤ 1024) × (i + 16 ≤ countOf (imageIn (now image)) 0) ⌝ }
     requires { ⌜ (shared ≡ sharedLearn (imageIn (now image))) × (port < 64) ⌝ }
-    ensures { λ r. ⌜ r ≡ some-below 8 (from i (bars (imageIn (now (image .entry))) port vlan mac)) ⌝ }
+    ensures { λ r. ⌜ r ≡ some-below 16 (from i (bars (imageIn (now (image .entry))) port vlan mac)) ⌝ }
 {
-    if one_has(image, mac, i) {
-        return one_bars(image, shared, port, vlan, mac, i, 8);
+    if none_like(image, key_of(mac), i) {
+        return false;
     }
-    false
+    one_bars(image, shared, port, vlan, mac, i, 16)
 }
 
 // Drop 6: does some entry keep this source from this port?
@@ -117,11 +131,11 @@ pub fn barred(image: &[u32], port: usize, vlan: u64, mac: u64) -> bool
     let n = image::counts::count(image, 0);
     let shared = image::parameters::shared_learn(image);
     let mut i: usize = 0;
-    while 8 <= n - i {
+    while 16 <= n - i {
         if group_bars(image, shared, port, vlan, mac, i) {
             return true;
         }
-        i += 8;
+        i += 16;
     }
     one_bars(image, shared, port, vlan, mac, i, n - i)
 }
@@ -172,16 +186,16 @@ fn lowest(
     Best { entry, low }
 }
 
-// The same for eight entries: where none has the address, none matches.
+// The same for sixteen entries: where none is like the address, none matches.
 fn group_lowest(image: &[u32], shared: u64, vlan: u64, mac: u64, i: usize, best: Best) -> Best
-    requires { ⌜ (imageWords ≤ length (now image)) × (countOf (imageIn (now image)) 0 ≤ 1024) × (i + 8 ≤ countOf (imageIn (now image)) 0) ⌝ }
+    requires { ⌜ (imageWords ≤ length (now image)) × (countOf (imageIn (now image)) 0 ≤ 1024) × (i + 16 ≤ countOf (imageIn (now image)) 0) ⌝ }
     requires { ⌜ (shared ≡ sharedLearn (imageIn (now image))) × Leading (imageIn (now image)) vlan mac i best ⌝ }
-    ensures { λ r. ⌜ Leading (imageIn (now (image .entry))) vlan mac (i + 8) r ⌝ }
+    ensures { λ r. ⌜ Leading (imageIn (now (image .entry))) vlan mac (i + 16) r ⌝ }
 {
-    if one_has(image, mac, i) {
-        return lowest(image, shared, vlan, mac, i, 8, best);
+    if none_like(image, key_of(mac), i) {
+        return best;
     }
-    best
+    lowest(image, shared, vlan, mac, i, 16, best)
 }
 
 // The match with the lowest INDEX, of equal ones the first; the count of 05 where nothing matches.
@@ -196,9 +210,9 @@ pub fn destination(image: &[u32], vlan: u64, mac: u64) -> usize
         low: 1024,
     };
     let mut i: usize = 0;
-    while 8 <= n - i {
+    while 16 <= n - i {
         best = group_lowest(image, shared, vlan, mac, i, best);
-        i += 8;
+        i += 16;
     }
     lowest(image, shared, vlan, mac, i, n - i, best).entry
 }

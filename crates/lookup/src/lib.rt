@@ -1,16 +1,18 @@
-// Searches in the tables of an image. Each looks at a group of entries at once, so that they go side by side, and only in a group that has what
-// it looks for at one after the other.
+// Searches in the tables of an image. Each asks a group of entries at once, so that they go side by side, whether one may be what it looks for,
+// and only such a group's one after the other.
 pub mod address;
 pub mod vlan;
 
 ghost use mathlib.Core.Path.{_≡_};
-ghost use Prim.Native.Nat.{_≤_};
+ghost use mathlib.Core.Bool.{not};
+ghost use Prim.Native.Nat.{_/_, _^_, _<_};
 ghost use lib.Dec.{eqb};
 ghost use Rattle.laws.specs.Scan.{flag};
 
-// 1 for equal numbers, and 0 for others.
-pub fn same(a: u64, b: u64) -> u64
-    ensures { λ r. ⌜ (r ≡ flag (eqb a b)) × (r ≤ 1) ⌝ }
+// A number whose top bit is clear exactly where the two are equal.
+pub fn apart(a: u32, b: u32) -> u32
+    requires { ⌜ (a < 2 ^ 31) × (b < 2 ^ 31) ⌝ }
+    ensures { λ r. ⌜ r / 2 ^ 31 ≡ flag (not (eqb a b)) ⌝ }
 {
-    if a == b { 1 } else { 0 }
+    (a ^ b) + 2147483647
 }

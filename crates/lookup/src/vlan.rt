@@ -1,26 +1,40 @@
 // The entry of 07 for a VLAN.
 ghost use mathlib.Core.Path.{_≡_};
-ghost use Prim.Native.Nat.{_+_, _≤_};
-ghost use lib.Dec.{eqb};
+ghost use mathlib.Core.Bool.{not};
+ghost use Prim.Native.Nat.{_+_, _%_, _<_, _≤_};
 ghost use lib.ListN.{length};
 ghost use Rattle.laws.specs.Scan.{some-below, first};
-ghost use Rattle.image.specs.Layout.{imageWords, imageIn, countOf};
+ghost use Rattle.image.specs.Layout.{Held, imageWords, imageIn, countOf};
 ghost use Rattle.image.specs.Fields.{vlanid};
 ghost use Rattle.lookup.specs.Groups.{from};
 ghost use Rattle.lookup.specs.Vlan.{hasVlan, vlanAt};
 
-// Has one of entries i to i + 15 this VLANID?
-fn one_has(image: &[u32], vlanid: u64, i: usize) -> bool
-    requires { ⌜ (imageWords ≤ length (now image)) × (countOf (imageIn (now image)) 2 ≤ 4096) × (i + 16 ≤ countOf (imageIn (now image)) 2) ⌝ }
-    ensures { λ r. ⌜ r ≡ some-below 16 (from i (hasVlan (imageIn (now (image .entry))) vlanid)) ⌝ }
+// VLANID of entry i, and the low 12 bits of the one that is looked for, as 32 bits: four go side by side.
+fn short(image: &[u32], i: usize) -> u32
+    requires { ⌜ Held 2 i (now image) ⌝ }
+    ensures { λ r. ⌜ (r ≡ vlanid (imageIn (now (image .entry))) i) × (r < 4096) ⌝ }
 {
-    let mut found: u64 = 0;
+    image::vlan::vlanid(image, i) as u32
+}
+
+fn key_of(vlanid: u64) -> u32
+    ensures { λ r. ⌜ (r ≡ vlanid % 4096) × (r < 4096) ⌝ }
+{
+    (vlanid % 4096) as u32
+}
+
+// Has none of entries i to i + 15 this VLANID?
+fn none_has(image: &[u32], key: u32, i: usize) -> bool
+    requires { ⌜ (imageWords ≤ length (now image)) × (countOf (imageIn (now image)) 2 ≤ 4096) × (i + 16 ≤ countOf (imageIn (now image)) 2) × (key < 4096) ⌝ }
+    ensures { λ r. ⌜ r ≡ not (some-below 16 (from i (hasVlan (imageIn (now (image .entry))) key))) ⌝ }
+{
+    let mut all: u32 = 2147483648;
     let mut k: usize = 0;
     while k < 16 {
-        found += crate::same(image::vlan::vlanid(image, i + k), vlanid);
+        all = all & crate::apart(short(image, i + k), key);
         k += 1;
     }
-    found != 0
+    all >> 31 == 1
 }
 
 // The first entry with this VLANID, none before `start` having it.
@@ -46,12 +60,14 @@ pub fn find(image: &[u32], vlanid: u64) -> usize
     ensures { λ r. ⌜ (r ≡ vlanAt (imageIn (now (image .entry))) vlanid) × (r ≤ countOf (imageIn (now (image .entry))) 2) ⌝ }
 {
     let n = image::counts::count(image, 2);
+    let key = key_of(vlanid);
     let mut i: usize = 0;
     while 16 <= n - i {
-        if one_has(image, vlanid, i) {
+        if none_has(image, key, i) {
+            i += 16;
+        } else {
             return find_from(image, vlanid, i);
         }
-        i += 16;
     }
     find_from(image, vlanid, i)
 }

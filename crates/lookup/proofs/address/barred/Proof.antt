@@ -22,13 +22,13 @@ returns : tie.Need-returns Inv-loop μ-loop
 returns c =
     let l = c .before .before .before .loop in
     let a = c .before .before .before .before .before .before .before .args in
-    sym (some-in (countOf (imageIn (now (a .image))) 0) (l .i) 8 _ (omega arith) (sym (c .before .group-bars .ensures) ∙ c .if1 .taken))
+    sym (some-in (countOf (imageIn (now (a .image))) 0) (l .i) 16 _ (omega arith) (sym (c .before .group-bars .ensures) ∙ c .if1 .taken))
 
 loop-again : tie.Need-loop-again Inv-loop μ-loop
 loop-again c =
     let l = c .before .before .before .loop in
     let a = c .before .before .before .before .before .before .before .args in
-    (omega arith, none-yet (bars (imageIn (now (a .image))) (a .port) (a .vlan) (a .mac)) (l .i) 8 (l .inv .1) (sym (c .before .group-bars .ensures) ∙ c .if1 .left))
+    (omega arith, none-yet (bars (imageIn (now (a .image))) (a .port) (a .vlan) (a .mac)) (l .i) 16 (l .inv .1) (sym (c .before .group-bars .ensures) ∙ c .if1 .left))
 
 returns-2 : tie.Need-returns-2 Inv-loop μ-loop
 returns-2 c =
