@@ -19,8 +19,8 @@ use Rattle.spend.specs.declared.Counts.{Counts}
 use Rattle.judge.specs.declared.Verdict.{Verdict}
 use Rattle.judge.specs.declared.Judged.{Judged}
 use Rattle.judge.specs.Judge.{judged, countsAt, withCounts, meterWith, charged}
-use Rattle.judge.specs.Laws.{Countable}
-use Rattle.cells.specs.Cells.{part, cellCount, ledgerIn, Leaves}
+use Rattle.judge.specs.Laws.{Countable, charged-countable}
+use Rattle.cells.specs.Cells.{part, cellCount, ledgerIn, Holds, Leaves}
 
 -- a load at i of a part is a load at i behind its start
 pub loaded : (a n i : ℕ) (cells : List ℕ) → i < n → getD (part a n cells) i 0 ≡ getD cells (a + i) 0
@@ -218,6 +218,11 @@ unfolding released
 released-in cells p h =
     stored-units cells p (getD cells p 0 + givenBack) h
     ∙ ap (λ (n : ℕ). putAt 0 p (n + givenBack) (ledgerIn cells)) (sym (units-in cells p h))
+
+-- steps 9 to 11 leave the counts that they found
+pub still-countable : (g : Ledger) (m p port : ℕ) (s : Spent) (cells : List ℕ) → Holds (charged g m p s) cells → Countable g port
+    → Countable (ledgerIn cells) port
+still-countable g m p port s cells h k = subst (λ (x : Ledger). Countable x port) (sym (h .ledger)) (charged-countable g m p s port k)
 
 pub same-judged : {v w : Verdict} {g h : Ledger} → v ≡ w → g ≡ h → judged v g ≡ judged w h
 same-judged e q = λ k. judged (e k) (q k)
