@@ -78,9 +78,9 @@ putAt b i v g =
       last = g .last;
     }
 
--- the part from b on, m long, is none of the seven
-abbrev pub noPart : ℕ → ℕ → Bool
-noPart b m =
+-- the part from b on, m long, crosses one of the seven, or reaches the last cell
+abbrev pub crossing : ℕ → ℕ → Bool
+crossing b m =
     cond (crossed 0 8 b m) true
     (cond (crossed 8 45 b m) true
     (cond (crossed 53 45 b m) true
@@ -88,7 +88,7 @@ noPart b m =
     (cond (crossed 103 5 b m) true (cond (crossed 108 5 b m) true (cond (crossed 113 5 b m) true (ltb 118 (b + m))))))))
 
 -- a store into one of the seven parts, at any of its indices
-pub stored : (cells : List ℕ) (b m i v : ℕ) → noPart b m ≡ false → i < m → ledgerIn (set cells (b + i) v) ≡ putAt b i v (ledgerIn cells)
+pub stored : (cells : List ℕ) (b m i v : ℕ) → crossing b m ≡ false → i < m → ledgerIn (set cells (b + i) v) ≡ putAt b i v (ledgerIn cells)
 unfolding ledgerIn
 stored cells b m i v e h =
     let e1 = none-rest (crossed 0 8 b m) _ e in
@@ -161,10 +161,6 @@ pub meter-in : (cells : List ℕ) (m most gain : ℕ) → m < 45
 unfolding ledgerIn
 meter-in cells m most gain h =
     λ k. record { smax = most; rate = gain; credit = loaded 8 45 m cells h k; since = loaded 53 45 m cells h k }
-
-pub last-in : (cells : List ℕ) → ledgerIn cells .last ≡ getD cells 118 0
-unfolding ledgerIn
-last-in cells = refl
 
 -- ---- the ledgers that a frame and a release leave
 
