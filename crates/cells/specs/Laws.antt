@@ -19,8 +19,8 @@ use Rattle.spend.specs.declared.Counts.{Counts}
 use Rattle.judge.specs.declared.Verdict.{Verdict}
 use Rattle.judge.specs.declared.Judged.{Judged}
 use Rattle.judge.specs.Judge.{judged, countsAt, withCounts, meterWith, charged}
-use Rattle.judge.specs.Laws.{Countable}
-use Rattle.cells.specs.Cells.{part, cellCount, ledgerIn, Leaves}
+use Rattle.judge.specs.Laws.{Countable, charged-countable}
+use Rattle.cells.specs.Cells.{part, cellCount, ledgerIn, Holds, Leaves}
 
 -- a load at i of a part is a load at i behind its start
 pub loaded : (a n i : ℕ) (cells : List ℕ) → i < n → getD (part a n cells) i 0 ≡ getD cells (a + i) 0
@@ -78,9 +78,9 @@ putAt b i v g =
       last = g .last;
     }
 
--- the part from b on, m long, is none of the seven
-abbrev pub noPart : ℕ → ℕ → Bool
-noPart b m =
+-- the part from b on, m long, crosses one of the seven, or reaches the last cell
+abbrev pub crossing : ℕ → ℕ → Bool
+crossing b m =
     cond (crossed 0 8 b m) true
     (cond (crossed 8 45 b m) true
     (cond (crossed 53 45 b m) true
@@ -88,7 +88,7 @@ noPart b m =
     (cond (crossed 103 5 b m) true (cond (crossed 108 5 b m) true (cond (crossed 113 5 b m) true (ltb 118 (b + m))))))))
 
 -- a store into one of the seven parts, at any of its indices
-pub stored : (cells : List ℕ) (b m i v : ℕ) → noPart b m ≡ false → i < m → ledgerIn (set cells (b + i) v) ≡ putAt b i v (ledgerIn cells)
+pub stored : (cells : List ℕ) (b m i v : ℕ) → crossing b m ≡ false → i < m → ledgerIn (set cells (b + i) v) ≡ putAt b i v (ledgerIn cells)
 unfolding ledgerIn
 stored cells b m i v e h =
     let e1 = none-rest (crossed 0 8 b m) _ e in
@@ -162,10 +162,6 @@ unfolding ledgerIn
 meter-in cells m most gain h =
     λ k. record { smax = most; rate = gain; credit = loaded 8 45 m cells h k; since = loaded 53 45 m cells h k }
 
-pub last-in : (cells : List ℕ) → ledgerIn cells .last ≡ getD cells 118 0
-unfolding ledgerIn
-last-in cells = refl
-
 -- ---- the ledgers that a frame and a release leave
 
 -- steps 9 to 11 store three cells
@@ -218,6 +214,11 @@ unfolding released
 released-in cells p h =
     stored-units cells p (getD cells p 0 + givenBack) h
     ∙ ap (λ (n : ℕ). putAt 0 p (n + givenBack) (ledgerIn cells)) (sym (units-in cells p h))
+
+-- steps 9 to 11 leave the counts that they found
+pub still-countable : (g : Ledger) (m p port : ℕ) (s : Spent) (cells : List ℕ) → Holds (charged g m p s) cells → Countable g port
+    → Countable (ledgerIn cells) port
+still-countable g m p port s cells h k = subst (λ (x : Ledger). Countable x port) (sym (h .ledger)) (charged-countable g m p s port k)
 
 pub same-judged : {v w : Verdict} {g h : Ledger} → v ≡ w → g ≡ h → judged v g ≡ judged w h
 same-judged e q = λ k. judged (e k) (q k)

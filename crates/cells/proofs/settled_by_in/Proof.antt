@@ -1,37 +1,26 @@
 -- `cells::settled_by_in`: dropped or sent, by the number of the spending.
 use borrow.Author.Needs.{needs}
-use mathlib.Core.Path.{_≡_, refl, sym, ap, subst, _∙_}
+use mathlib.Core.Path.{refl, ap, _∙_}
 use mathlib.Core.Bool.{Bool, true, false}
 use Rattle.ledger.specs.declared.Ledger.{Ledger}
 use Rattle.ledger.specs.Laws.{at-zero, not-zero}
 use Rattle.judge.specs.declared.Verdict.the-variants.{Sent}
 use Rattle.judge.specs.Judge.{noted, settledBy}
-use Rattle.judge.specs.Laws.{Countable, charged-countable}
-use Rattle.cells.specs.Laws.{same-judged}
+use Rattle.cells.specs.Laws.{still-countable, same-judged}
 use Rattle.cells.proofs.settled_by_in.Statement.{statement}
 use Rattle.cells.proofs.settled_by_in.Tie as tie
 
 note-in-requires : tie.Need-note-in-requires
 note-in-requires c κs =
     let s = c .before .before .before .before .before .before .before .before .before in
-    let h = c .before .before .before .before .before .charge-in .ensures in (
-      h .all,
-      (
-        subst (λ (g : Ledger). Countable g (s .args .port)) (sym (h .ledger)) (charged-countable _ _ _ _ _ (s .pre .1 .1 .0)),
-        (s .pre .1 .1 .1 .0 .0, s .pre .1 .1 .1 .0 .1),
-      ),
-    )
+    let h = c .before .before .before .before .before .charge-in .ensures in
+    (h .all, (still-countable _ _ _ _ _ _ h (s .pre .1 .1 .0), (s .pre .1 .1 .1 .0 .0, s .pre .1 .1 .1 .0 .1)))
 
 note-in-requires-2 : tie.Need-note-in-requires-2
 note-in-requires-2 c κs =
     let s = c .before .before .before .before .before .before .before .before .before in
-    let h = c .before .before .before .before .before .charge-in .ensures in (
-      h .all,
-      (
-        subst (λ (g : Ledger). Countable g (s .args .port)) (sym (h .ledger)) (charged-countable _ _ _ _ _ (s .pre .1 .1 .0)),
-        (s .pre .1 .1 .1 .0 .0, s .pre .1 .1 .1 .0 .1),
-      ),
-    )
+    let h = c .before .before .before .before .before .charge-in .ensures in
+    (h .all, (still-countable _ _ _ _ _ _ h (s .pre .1 .1 .0), (s .pre .1 .1 .1 .0 .0, s .pre .1 .1 .1 .0 .1)))
 
 returns : tie.Need-returns
 unfolding settledBy
