@@ -80,53 +80,52 @@ pub fn index_of(t: Table) -> usize
     }
 }
 
+// A table's row: where its entries start in the image, the words of an entry, the most entries that it takes.
+pub struct Shape {
+    pub base: usize,
+    pub size: usize,
+    pub most: usize,
+}
+
+fn row(base: usize, size: usize, most: usize) -> Shape
+    ensures { λ r. ⌜ (r .base ≡ base) × (r .size ≡ size) × (r .most ≡ most) ⌝ }
+{
+    Shape { base, size, most }
+}
+
+pub fn shape_of(t: Table) -> Shape
+    ensures { λ r. ⌜ (r .base ≡ baseOf (indexOf t)) × (r .size ≡ sizeOf (indexOf t)) × (r .most ≡ mostOf (indexOf t)) × (r .base < 11430) × (0 < r .size) × (r .size < 11) × (r .most < 4097) ⌝ }
+{
+    match t {
+        Table::AddressLookup => row(0, 3, 1024),
+        Table::Policing => row(3072, 2, 45),
+        Table::VlanLookup => row(3162, 2, 4096),
+        Table::Forwarding => row(11354, 2, 13),
+        Table::MacConfiguration => row(11380, 7, 5),
+        Table::LookupParameters => row(11415, 1, 1),
+        Table::ForwardingParameters => row(11416, 3, 1),
+        Table::GeneralParameters => row(11419, 10, 1),
+        Table::XmiiModeParameters => row(11429, 1, 1),
+    }
+}
+
 // Where a table's entries start in the image.
 pub fn base_of(t: Table) -> usize
     ensures { λ r. ⌜ (r ≡ baseOf (indexOf t)) × (r < 11430) ⌝ }
 {
-    match t {
-        Table::AddressLookup => 0,
-        Table::Policing => 3072,
-        Table::VlanLookup => 3162,
-        Table::Forwarding => 11354,
-        Table::MacConfiguration => 11380,
-        Table::LookupParameters => 11415,
-        Table::ForwardingParameters => 11416,
-        Table::GeneralParameters => 11419,
-        Table::XmiiModeParameters => 11429,
-    }
+    shape_of(t).base
 }
 
 // The words of an entry.
 pub fn size_of(t: Table) -> usize
     ensures { λ r. ⌜ (r ≡ sizeOf (indexOf t)) × (0 < r) × (r < 11) ⌝ }
 {
-    match t {
-        Table::AddressLookup => 3,
-        Table::Policing => 2,
-        Table::VlanLookup => 2,
-        Table::Forwarding => 2,
-        Table::MacConfiguration => 7,
-        Table::LookupParameters => 1,
-        Table::ForwardingParameters => 3,
-        Table::GeneralParameters => 10,
-        Table::XmiiModeParameters => 1,
-    }
+    shape_of(t).size
 }
 
 // The most entries that a table takes.
 pub fn most_of(t: Table) -> usize
     ensures { λ r. ⌜ (r ≡ mostOf (indexOf t)) × (r < 4097) ⌝ }
 {
-    match t {
-        Table::AddressLookup => 1024,
-        Table::Policing => 45,
-        Table::VlanLookup => 4096,
-        Table::Forwarding => 13,
-        Table::MacConfiguration => 5,
-        Table::LookupParameters => 1,
-        Table::ForwardingParameters => 1,
-        Table::GeneralParameters => 1,
-        Table::XmiiModeParameters => 1,
-    }
+    shape_of(t).most
 }
