@@ -6,24 +6,24 @@ use mathlib.Core.List.{List, [], _∷_, _++_}
 use mathlib.Core.List.{append-assoc, append-nil}
 use Prim.Native.Nat.{ℕ, zero, suc, _+_, _-_, _*_, _/_, _%_, _<_, _≤_}
 use native.Mathlib.Nat.{mul-comm, mul-le-mul-right, add-zero, not-suc-le-zero, le-of-eq, zero-lt-suc}
-use lib.Dec.{leb, eqb, lit<}
+use lib.Dec.{ltb, leb, eqb, lit<}
 use native.Mathlib.Omega.{arith}
 use lib.ListN.{length, getD, set, take, drop, replicate, length-set, length-drop, take-append-drop}
 use lib.Seq.{sets, drop-set-lt, take-all, drop-drop, take-suc-set}
-use borrow.Author.Tests.{ltb-false, leb-true, lt-ltb, le-ltb, eq-eqb, ne-eqb}
+use borrow.Author.Tests.{ltb-true, ltb-false, leb-true, lt-ltb, le-ltb, eq-eqb, ne-eqb}
 use Rattle.laws.specs.Scan.{every, every-at}
 use Rattle.laws.specs.Chain.{hit, pass, hit-eq, pass-eq, hit-ne, pass-ne}
 use Rattle.crc.specs.Crc.{wordIn, wordsIn, start, finished, checksum}
 use Rattle.image.specs.Rows.{sizeOf, mostOf, baseOf}
 use Rattle.image.specs.Layout.{imageWords, entryWords, imageIn, markAt}
-use Rattle.image.specs.Loaded.{tooShort}
+use Rattle.image.specs.Loaded.{tooShort, overLimit}
 use Rattle.image.specs.Sound.{Within, Bounded, bounded}
 use Rattle.image.specs.Tables.{indexOf, kindOf, tables}
 use Rattle.image.specs.declared.tables.Table.{Table}
 use Rattle.image.specs.declared.tables.Table.the-variants.{AddressLookup}
 use Rattle.rules.specs.Rules.{ruled}
 use Rattle.stream.specs.Header.{idOf, lengthOf, wrong}
-use Rattle.stream.specs.Machine.{Machine, at, told, idle, filling, cleared, refuse, hadIn, placeIn, finish, endedBy, begunBy, summed, filled, stepIn, step, run, beyond, fresh, begun, damaged, outside, untouched, opened, Written, written, wrote}
+use Rattle.stream.specs.Machine.{Machine, at, told, idle, filling, cleared, refuse, hadIn, placeIn, finish, endedBy, begunBy, summed, filled, stepIn, step, run, beyond, fresh, begun, overdueIn, damaged, outside, untouched, opened, Written, written, wrote}
 use Rattle.stream.specs.Paper.{Whole, asFound, loadedWords, wordsOf, loadedBytes}
 use Rattle.stream.specs.Bytes.{wordAt, words-from, words-none, words-split}
 use Rattle.stream.specs.Ends.{settledIn, settled, whole}
@@ -31,13 +31,13 @@ use Rattle.stream.specs.declared.Phase.{Phase}
 use Rattle.stream.specs.declared.Phase.the-variants.{Device, Id, Length, Sum, Data, Told}
 use Rattle.stream.specs.declared.Answer.{Answer}
 use Rattle.stream.specs.declared.Load.{Load}
-use Rattle.loader.specs.Leaves.{Leaves, headerOf, Writes, Ends}
+use Rattle.loader.specs.Leaves.{Leaves, headerOf, RoomOf, Writes, Ends}
 use Rattle.loader.specs.declared.Wrote.{Wrote}
 use Rattle.loader.specs.declared.Header.{Header}
 use Rattle.loader.specs.declared.Header.the-variants.{Wrong, Right}
 use Rattle.stream.specs.Runs.{index-lt, run-data, run-append}
 use Rattle.stream.specs.Bridge.{size-positive, room-inside}
-use Rattle.stream.specs.Fine.{Fine, Roomy, store-fine, mark-kept, raised}
+use Rattle.stream.specs.Fine.{Fine, Roomy, store-fine, mark-kept, raised, undamaged-fine}
 
 -- what is left is also an equal machine's
 pub so : {m n : Machine} {r : Load} {b : List ℕ} → m ≡ n → Leaves m r b → Leaves n r b
@@ -113,22 +113,40 @@ unfolding checksum wordsIn
 two-words h0 h1 a b f ea eb ef = ef ∙ ap finished (eb ∙ ap (λ (x : ℕ). wordIn x h1) ea)
 
 -- ---- a block's place
+-- what a table's row and its count give
+pub record Bounds (t : Table) (buffer : List ℕ) (base size most had : ℕ) : Type 0 where
+  pub below : had * size ≤ most * size
+  pub inside : base + most * size ≤ entryWords
+  pub room : RoomOf buffer (indexOf t) (record { place = base + had * size; left = most * size - had * size })
+
+pub words-had : (t : Table) (buffer : List ℕ) (s i had : ℕ) → s ≡ sizeOf (indexOf t) → i ≡ indexOf t → had ≡ hadIn buffer i
+    → had * s ≡ hadIn buffer (indexOf t) * sizeOf (indexOf t)
+words-had t buffer s i had size index count =
+    ap (λ (x : ℕ). x * s) (count ∙ ap (λ (x : ℕ). hadIn buffer x) index) ∙ ap (λ (x : ℕ). hadIn buffer (indexOf t) * x) size
+
+pub bounds : (t : Table) (buffer : List ℕ) (b s m i had : ℕ) → b ≡ baseOf (indexOf t) → s ≡ sizeOf (indexOf t) → m ≡ mostOf (indexOf t) → i ≡ indexOf t → had ≡ hadIn buffer i
+    → hadIn buffer (indexOf t) * sizeOf (indexOf t) ≤ mostOf (indexOf t) * sizeOf (indexOf t)
+    → Bounds t buffer b s m had
+bounds t buffer b s m i had base size most index count fits =
+    let h : had * s ≡ hadIn buffer (indexOf t) * sizeOf (indexOf t) = words-had t buffer s i had size index count in
+    let r : m * s ≡ mostOf (indexOf t) * sizeOf (indexOf t) = ap (λ (x : ℕ). x * s) most ∙ ap (λ (x : ℕ). mostOf (indexOf t) * x) size in
+    let e : mostOf (indexOf t) * sizeOf (indexOf t) ≡ sizeOf (indexOf t) * mostOf (indexOf t) = mul-comm (mostOf (indexOf t)) (sizeOf (indexOf t)) in
+    let all = room-inside (indexOf t) (index-lt t) in
+    let below : had * s ≤ m * s = omega (arith, h, r, fits) in
+    let inside : b + m * s ≤ entryWords = omega (arith, base, r, e, all) in
+    record {
+      below = below;
+      inside = inside;
+      room = record {
+        place = ap (λ (x : ℕ). x + had * s) base ∙ ap (λ (x : ℕ). baseOf (indexOf t) + x) h;
+        left = omega (arith, h, r, below);
+        inside = omega (arith, below, inside);
+      };
+    }
+
 module _ (t : Table) (buffer : List ℕ) (s i had : ℕ) (size : s ≡ sizeOf (indexOf t)) (index : i ≡ indexOf t) (count : had ≡ hadIn buffer i) where
-  pub had-is : had ≡ hadIn buffer (indexOf t)
+  had-is : had ≡ hadIn buffer (indexOf t)
   had-is = count ∙ ap (λ (x : ℕ). hadIn buffer x) index
-
-  pub words-had : had * s ≡ hadIn buffer (indexOf t) * sizeOf (indexOf t)
-  words-had = ap (λ (x : ℕ). x * s) had-is ∙ ap (λ (x : ℕ). hadIn buffer (indexOf t) * x) size
-
-  -- the place and what follows it lie among the entries
-  pub place-bound : (base placed due : ℕ) → base ≡ baseOf (indexOf t)
-      → hadIn buffer (indexOf t) * sizeOf (indexOf t) + placed + due ≤ mostOf (indexOf t) * sizeOf (indexOf t)
-      → base + had * s + placed + due ≤ entryWords
-  place-bound base placed due e room =
-      omega (arith, words-had, room-inside (indexOf t) (index-lt t), mul-comm (mostOf (indexOf t)) (sizeOf (indexOf t)))
-
-  pub place-is : (base placed : ℕ) → base ≡ baseOf (indexOf t) → base + had * s + placed ≡ placeIn buffer (indexOf t) placed
-  place-is base placed e = ap (λ (x : ℕ). x + had * s + placed) e ∙ ap (λ (x : ℕ). baseOf (indexOf t) + x + placed) words-had
 
   pub raised-is : (placed : ℕ) → had + placed / s ≡ hadIn buffer (indexOf t) + placed / sizeOf (indexOf t)
   raised-is placed = ap (λ (x : ℕ). x + placed / s) had-is ∙ ap (λ (x : ℕ). hadIn buffer (indexOf t) + placed / x) size
@@ -236,26 +254,23 @@ goes-on m n ws i count e =
     ∙ ap (λ (l : List ℕ). run m l) (take-append-drop count (drop i ws))
 
 -- ---- 30's sum, tested by a difference
-module _ (t : Table) (buffer : List ℕ) (s i had m : ℕ) (size : s ≡ sizeOf (indexOf t)) (index : i ≡ indexOf t) (count : had ≡ hadIn buffer i)
-    (most : m ≡ mostOf (indexOf t)) (within : Within (imageIn buffer)) where
-  pub room-is : m * s ≡ mostOf (indexOf t) * sizeOf (indexOf t)
-  room-is = ap (λ (x : ℕ). x * s) most ∙ ap (λ (x : ℕ). mostOf (indexOf t) * x) size
+-- two tests that hold together and fail together
+together : (a b c d : ℕ) → (a < b → c < d) → (b ≤ a → d ≤ c) → ltb a b ≡ ltb c d
+together a b c d f g = go (ltb a b) refl
+  where
+    go : (t : Bool) → ltb a b ≡ t → t ≡ ltb c d
+    go true e = sym (lt-ltb c d (f (ltb-true a b e)))
+    go false e = sym (le-ltb c d (g (ltb-false a b e)))
 
-  pub room-small : m * s ≤ entryWords
-  room-small = omega (arith, room-is, room-inside (indexOf t) (index-lt t), mul-comm (mostOf (indexOf t)) (sizeOf (indexOf t)))
+pub same-test : (left placed due : ℕ) → placed ≤ left → ltb (left - placed) due ≡ ltb left (placed + due)
+same-test left placed due h = together (left - placed) due left (placed + due) (λ l. omega arith) (λ l. omega arith)
 
-  pub had-fits : had * s ≤ m * s
-  had-fits =
-      subst (λ (x : ℕ). x ≤ m * s) (sym (words-had t buffer s i had size index count))
-      (subst (λ (x : ℕ). hadIn buffer (indexOf t) * sizeOf (indexOf t) ≤ x) (sym room-is) (mul-le-mul-right (sizeOf (indexOf t)) (within (indexOf t) (index-lt t))))
-
-  pub beyond-holds : (placed due : ℕ) → m * s < had * s + placed + due → true ≡ beyond (imageIn buffer) (indexOf t) placed due
-  beyond-holds placed due h = sym (lt-ltb _ _ (subst (λ (x : ℕ). x < hadIn buffer (indexOf t) * sizeOf (indexOf t) + placed + due) room-is
-      (subst (λ (x : ℕ). m * s < x + placed + due) (words-had t buffer s i had size index count) h)))
-
-  pub beyond-fails : (placed due : ℕ) → had * s + placed + due ≤ m * s → false ≡ beyond (imageIn buffer) (indexOf t) placed due
-  beyond-fails placed due h = sym (le-ltb _ _ (subst (λ (x : ℕ). hadIn buffer (indexOf t) * sizeOf (indexOf t) + placed + due ≤ x) room-is
-      (subst (λ (x : ℕ). x + placed + due ≤ m * s) (words-had t buffer s i had size index count) h)))
+pub beyond-is : (k : ℕ) (buffer : List ℕ) (left placed due : ℕ) → hadIn buffer k * sizeOf k + left ≡ mostOf k * sizeOf k
+    → ltb left (placed + due) ≡ beyond (imageIn buffer) k placed due
+beyond-is k buffer left placed due e = go (hadIn buffer k * sizeOf k) (mostOf k * sizeOf k) e
+  where
+    go : (had room : ℕ) → had + left ≡ room → ltb left (placed + due) ≡ ltb room (had + placed + due)
+    go had room e = together left (placed + due) room (had + placed + due) (λ l. omega arith) (λ l. omega arith)
 
 -- ---- a whole load
 pub settles : (l : Load) (buffer : List ℕ) (p : Phase) (r : Answer) (after : List ℕ) → l .phase ≡ p → Ends (settledIn p buffer) r after → Ends (settled (at l buffer)) r after
@@ -288,6 +303,45 @@ module _ (l : Load) (buffer ws : List ℕ) (short bad out : Bool) (es : short �
   unfolding wrote
   wrote-run h d o = pass short _ _ _ _ es h (pass bad _ _ _ _ ed d (pass out _ _ _ _ eo o refl))
 
+-- a begun load runs on its own buffer, a fresh one on the cleared
+pub opened-begun : (l : Load) (buffer : List ℕ) (b : Bool) → b ≡ begun (l .phase) → b ≡ true → at l buffer ≡ opened l buffer
+opened-begun l buffer b e h = ap (λ (x : List ℕ). at l x) (hit b _ _ _ e h)
+
+pub opened-fresh : (l : Load) (buffer : List ℕ) (b : Bool) → b ≡ begun (l .phase) → b ≡ false → at l (cleared buffer) ≡ opened l buffer
+opened-fresh l buffer b e h = ap (λ (x : List ℕ). at l x) (pass b _ _ _ _ e h refl)
+
+-- the same for a load inside a block, by 30's two tests
+module _ (l : Load) (buffer ws : List ℕ) (room : imageWords ≤ length buffer) (inside : l .phase ≡ Data) (over late : Bool) (eo : over ≡ overLimit (imageIn buffer))
+    (el : late ≡ beyond (imageIn buffer) (indexOf (l .table)) (l .placed) (l .due)) where
+  not-short : false ≡ tooShort buffer
+  not-short = sym (le-ltb (length buffer) imageWords room)
+
+  bad : cond over true late ≡ damaged l (imageIn buffer)
+  bad =
+      ap (λ (t : Bool). cond t true late) eo
+      ∙ ap (λ (t : Bool). cond (overLimit (imageIn buffer)) true t) el
+      ∙ sym (ap (λ (p : Phase). cond (begun p) (cond (overLimit (imageIn buffer)) true (overdueIn p l (imageIn buffer))) false) inside)
+
+  good : over ≡ false → late ≡ false → cond over true late ≡ false
+  good o t = ap (λ (x : Bool). cond x true late) o ∙ t
+
+  pub block-30 : cond over true late ≡ true → untouched 30 l buffer ≡ wrote l buffer ws
+  block-30 h = wrote-30 l buffer ws false (cond over true late) (outside (length ws)) not-short bad refl refl h
+
+  pub block-32 : (out : Bool) → out ≡ outside (length ws) → over ≡ false → late ≡ false → out ≡ true → untouched 32 l buffer ≡ wrote l buffer ws
+  block-32 out e o t h = wrote-32 l buffer ws false (cond over true late) out not-short bad e refl (good o t) h
+
+  pub block-run : (out : Bool) → out ≡ outside (length ws) → over ≡ false → late ≡ false → out ≡ false → written (run (at l buffer) ws) ≡ wrote l buffer ws
+  block-run out e o t h =
+      ap (λ (m : Machine). written (run m ws)) (opened-begun l buffer true (sym (ap begun inside)) refl)
+      ∙ wrote-run l buffer ws false (cond over true late) out not-short bad e refl (good o t) h
+
+  pub block-fine : over ≡ false → late ≡ false → Fine (at l buffer)
+  block-fine o t = undamaged-fine l buffer room (ap begun inside) (sym bad ∙ good o t)
+
+  pub block-roomy : over ≡ false → late ≡ false → Roomy Data l buffer
+  block-roomy o t = subst (λ (p : Phase). Roomy p l buffer) inside (block-fine o t .roomy)
+
 -- 31's test failed: the buffer has room
 pub has-room : (buffer : List ℕ) (short : Bool) → short ≡ tooShort buffer → short ≡ false → imageWords ≤ length buffer
 has-room buffer short e h = ltb-false (length buffer) imageWords (sym e ∙ h)
@@ -296,13 +350,6 @@ has-room buffer short e h = ltb-false (length buffer) imageWords (sym e ∙ h)
 pub some-word : (n : ℕ) → outside n ≡ false → 0 < n
 some-word zero h = absurd (true≢false h)
 some-word (suc n) h = zero-lt-suc n
-
--- a begun load runs on its own buffer, a fresh one on the cleared
-pub opened-begun : (l : Load) (buffer : List ℕ) (b : Bool) → b ≡ begun (l .phase) → b ≡ true → at l buffer ≡ opened l buffer
-opened-begun l buffer b e h = ap (λ (x : List ℕ). at l x) (hit b _ _ _ e h)
-
-pub opened-fresh : (l : Load) (buffer : List ℕ) (b : Bool) → b ≡ begun (l .phase) → b ≡ false → at l (cleared buffer) ≡ opened l buffer
-opened-fresh l buffer b e h = ap (λ (x : List ℕ). at l x) (pass b _ _ _ _ e h refl)
 
 -- a load that has not begun has nothing due
 pub unbegun-roomy : (l : Load) (buffer : List ℕ) (p : Phase) → l .phase ≡ p → begun p ≡ false → Roomy p l buffer

@@ -2,16 +2,19 @@
 use mathlib.Core.Path.{_≡_}
 use mathlib.Core.Bool.{cond}
 use mathlib.Core.List.{List}
-use Prim.Native.Nat.{ℕ, _<_, _≤_}
+use Prim.Native.Nat.{ℕ, _+_, _*_, _<_, _≤_}
 use lib.Dec.{eqb}
 use lib.ListN.{length, getD, take}
 use Rattle.image.specs.Tables.{tables}
 use Rattle.image.specs.declared.tables.Table.the-variants.{AddressLookup}
 use Rattle.stream.specs.Header.{wrong}
-use Rattle.stream.specs.Machine.{Machine, at, run, wrote}
+use Rattle.stream.specs.Machine.{Machine, at, hadIn, run, wrote}
 use Rattle.stream.specs.Paper.{Whole}
 use Rattle.stream.specs.declared.Answer.{Answer}
 use Rattle.stream.specs.declared.Load.{Load}
+use Rattle.image.specs.Layout.{entryWords}
+use Rattle.image.specs.Rows.{baseOf, sizeOf, mostOf}
+use Rattle.loader.specs.declared.Room.{Room}
 use Rattle.loader.specs.declared.Took.{Took}
 use Rattle.loader.specs.declared.Wrote.{Wrote}
 use Rattle.loader.specs.declared.Header.{Header}
@@ -25,6 +28,12 @@ pub record Leaves (m : Machine) (load : Load) (buffer : List ℕ) : Type 0 where
 -- a block's header: its refusal, or its table
 abbrev pub headerOf : ℕ → ℕ → ℕ → Header
 headerOf kind n had = cond (eqb (wrong kind n had) 0) (Right (getD tables kind AddressLookup)) (Wrong (wrong kind n had))
+
+-- where a table's next entry goes, and the words that it has left
+pub record RoomOf (buffer : List ℕ) (k : ℕ) (r : Room) : Type 0 where
+  pub place : r .place ≡ baseOf k + hadIn buffer k * sizeOf k
+  pub left : hadIn buffer k * sizeOf k + r .left ≡ mostOf k * sizeOf k
+  pub inside : r .place + r .left ≤ entryWords
 
 -- some words were taken, one at least, and what is left is the machine's run over them
 pub record Takes (load : Load) (buffer words : List ℕ) (r : Took) (after : List ℕ) : Type 0 where

@@ -8,6 +8,7 @@ ghost use mathlib.Core.Path.{_≡_};
 ghost use mathlib.Core.Bool.{false};
 ghost use mathlib.Core.List.{[], _∷_};
 ghost use Prim.Native.Nat.{_+_, _-_, _*_, _/_, _<_, _≤_};
+ghost use lib.Dec.{ltb};
 ghost use lib.ListN.{length};
 ghost use lib.Seq.{sets};
 ghost use Rattle.image.specs.Layout.{imageWords, entryWords, imageIn};
@@ -22,7 +23,7 @@ ghost use Rattle.crc.specs.Crc.{checksum};
 ghost use Rattle.stream.specs.Header.{idOf};
 ghost use Rattle.stream.specs.Fine.{Roomy, Fine};
 ghost use Rattle.stream.specs.declared.Phase.the-variants.{Data};
-ghost use Rattle.loader.specs.Leaves.{Leaves, headerOf, Takes, Writes, Ends};
+ghost use Rattle.loader.specs.Leaves.{Leaves, headerOf, RoomOf, Takes, Writes, Ends};
 
 // What a block's header comes to: the number 3 to 6 that it is refused with, or its table.
 pub enum Header {
@@ -205,15 +206,32 @@ fn summed(image: &mut [u32], stream: u32, first: u32, second: u32, w: u32) -> Lo
     begun(image, crc::word_in(stream, w), first, wide(n))
 }
 
+// Where a table's next entry goes, and the words that the table has left from there on.
+struct Room {
+    place: usize,
+    left: usize,
+}
+
+fn room_of(image: &[u32], table: Table) -> Room
+    requires { ⌜ imageWords ≤ length (now image) ⌝ }
+    requires { ⌜ hadIn (now image) (indexOf table) * sizeOf (indexOf table) ≤ mostOf (indexOf table) * sizeOf (indexOf table) ⌝ }
+    ensures { λ r. ⌜ RoomOf (now (image .entry)) (indexOf table) r ⌝ }
+{
+    let shape = image::tables::shape_of(table);
+    let had = image::counts::count(image, image::tables::index_of(table));
+    Room {
+        place: shape.base + had * shape.size,
+        left: shape.most * shape.size - had * shape.size,
+    }
+}
+
 // Where the next word of a block goes.
 fn place_of(image: &[u32], table: Table, placed: usize, due: usize) -> usize
     requires { ⌜ imageWords ≤ length (now image) ⌝ }
     requires { ⌜ hadIn (now image) (indexOf table) * sizeOf (indexOf table) + placed + due ≤ mostOf (indexOf table) * sizeOf (indexOf table) ⌝ }
     ensures { λ r. ⌜ (r ≡ placeIn (now (image .entry)) (indexOf table) placed) × (r + due ≤ entryWords) ⌝ }
 {
-    let size = image::tables::size_of(table);
-    let had = image::counts::count(image, image::tables::index_of(table));
-    image::tables::base_of(table) + had * size + placed
+    room_of(image, table).place + placed
 }
 
 // A table's count once a block's checksum has passed.
@@ -327,7 +345,7 @@ fn copy(image: &mut [u32], place: usize, words: &[u32])
 fn data_run(image: &mut [u32], load: Load, words: &[u32]) -> Load
     requires { ⌜ (imageWords ≤ length (now image)) × Roomy Data load (now image) ⌝ }
     requires { ⌜ (0 < length (now words)) × (length (now words) ≤ load .due) × (load .phase ≡ Data) ⌝ }
-    ensures { λ r. ⌜ Leaves (run (at load (now (image .entry))) (now (words .entry))) r (now (image .exit)) ⌝ }
+    ensures { λ r. ⌜ Leaves (run (at load (now (image .entry))) (now (words .entry))) r (now (image .exit)) × (r .phase ≡ Data) ⌝ }
 {
     let table = load.table;
     let placed = load.placed;
@@ -441,21 +459,22 @@ fn is_begun(phase: Phase) -> bool
     }
 }
 
-// More words are due than a table has room for. The sum is tested without ever being out of a number's range.
+// More words are placed and due than are left. The sum is tested without ever being out of a number's range.
+fn passes(left: usize, placed: usize, due: usize) -> bool
+    ensures { λ r. ⌜ r ≡ ltb left (placed + due) ⌝ }
+{
+    if left < placed {
+        return true;
+    }
+    left - placed < due
+}
+
+// More words are due than a table has room for.
 fn beyond(image: &[u32], table: Table, placed: usize, due: usize) -> bool
     requires { ⌜ (imageWords ≤ length (now image)) × Within (imageIn (now image)) ⌝ }
     ensures { λ r. ⌜ r ≡ beyond (imageIn (now (image .entry))) (indexOf table) placed due ⌝ }
 {
-    let size = image::tables::size_of(table);
-    let had = image::counts::count(image, image::tables::index_of(table));
-    let room = image::tables::most_of(table) * size - had * size;
-    if room < placed {
-        return true;
-    }
-    if room - placed < due {
-        return true;
-    }
-    false
+    passes(room_of(image, table).left, placed, due)
 }
 
 fn overdue(image: &[u32], load: Load) -> bool
@@ -499,26 +518,79 @@ fn outside(n: usize) -> bool
     64 < n
 }
 
-// A write that no test refuses: its first zeroes the image. Mostly a write has data of one block alone.
+// A write that no test refuses: its first zeroes the image.
 fn opened_run(image: &mut [u32], load: Load, words: &[u32]) -> Load
-    requires { ⌜ (imageWords ≤ length (now image)) × (damaged load (imageIn (now image)) ≡ false) × (0 < length (now words)) ⌝ }
+    requires { ⌜ (imageWords ≤ length (now image)) × (damaged load (imageIn (now image)) ≡ false) ⌝ }
     ensures { λ r. ⌜ Leaves (run (opened load (now (image .entry))) (now (words .entry))) r (now (image .exit)) ⌝ }
 {
     let phase = load.phase;
-    let due = load.due;
-    if let Phase::Data = phase {
-        if words.len() == 1 {
-            return filled(image, load, words[0]);
-        }
-        if words.len() <= due {
-            return data_run(image, load, words);
-        }
-    }
     if is_begun(phase) {
         return run(image, load, words);
     }
     clear(image);
     run(image, load, words)
+}
+
+// A write's data of one block alone, one word or more, at the place where they go.
+fn data_in(image: &mut [u32], load: Load, place: usize, words: &[u32]) -> Load
+    requires { ⌜ (imageWords ≤ length (now image)) × Roomy Data load (now image) ⌝ }
+    requires { ⌜ (place ≡ placeIn (now image) (indexOf (load .table)) (load .placed)) × (place + load .due ≤ entryWords) ⌝ }
+    requires { ⌜ (0 < length (now words)) × (length (now words) ≤ load .due) × (load .phase ≡ Data) ⌝ }
+    ensures { λ r. ⌜ Leaves (run (at load (now (image .entry))) (now (words .entry))) r (now (image .exit)) × (r .phase ≡ Data) ⌝ }
+{
+    let table = load.table;
+    if words.len() == 1 {
+        let word = words[0];
+        image[place] = word;
+        return filling(
+            table,
+            load.placed + 1,
+            load.due - 1,
+            crc::word_in(load.stream, word),
+            crc::word_in(load.block, word),
+        );
+    }
+    data_run(image, load, words)
+}
+
+// A write to a load that is inside a block. Mostly it has data of this block alone.
+fn in_block(image: &mut [u32], load: Load, words: &[u32]) -> Wrote
+    requires { ⌜ (imageWords ≤ length (now image)) × (load .phase ≡ Data) ⌝ }
+    ensures { λ r. ⌜ Writes load (now (image .entry)) (now (words .entry)) r (now (image .exit)) ⌝ }
+{
+    if image::counts::over_limit(image) {
+        return Wrote {
+            answer: Answer::Refused(30),
+            load,
+        };
+    }
+    let table = load.table;
+    let room = room_of(image, table);
+    if passes(room.left, load.placed, load.due) {
+        return Wrote {
+            answer: Answer::Refused(30),
+            load,
+        };
+    }
+    if outside(words.len()) {
+        return Wrote {
+            answer: Answer::Refused(32),
+            load,
+        };
+    }
+    if words.len() <= load.due {
+        let next = data_in(image, load, room.place + load.placed, words);
+        return Wrote {
+            answer: Answer::More,
+            load: next,
+        };
+    }
+    let next = run(image, load, words);
+    let phase = next.phase;
+    Wrote {
+        answer: answer_of(phase),
+        load: next,
+    }
 }
 
 // Words for a load: its answer and its state afterwards. The buffer's first 11,456 words are the image.
@@ -530,6 +602,10 @@ pub fn write(image: &mut [u32], load: Load, words: &[u32]) -> Wrote
             answer: Answer::Refused(31),
             load,
         };
+    }
+    let phase = load.phase;
+    if let Phase::Data = phase {
+        return in_block(image, load, words);
     }
     if damaged(image, load) {
         return Wrote {

@@ -31,7 +31,7 @@ returns c =
     let d = c .before .before in
     let l = d .before .before .before in
     let s = l .before .before .before .before .before .before in
-    record { some = l .least .ensures .2 (l .before .if1 .taken) (s .pre .1); fits = l .least .ensures .1; leaves = d .data-run .ensures }
+    record { some = l .least .ensures .2 (l .before .if1 .taken) (s .pre .1); fits = l .least .ensures .1; leaves = d .data-run .ensures .0 }
 
 returns-2 : tie.Need-returns-2
 returns-2 c =

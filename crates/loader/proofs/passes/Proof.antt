@@ -1,0 +1,16 @@
+-- `loader::passes`: the difference that is tested says what the sum says.
+use mathlib.Core.Path.{_≡_, sym}
+use Prim.Native.Nat.{_+_}
+use native.Mathlib.Omega.{arith}
+use borrow.Author.Needs.{needs}
+use borrow.Author.Tests.{lt-ltb}
+use Rattle.loader.proofs.Laws.{same-test}
+use Rattle.loader.proofs.passes.Statement.{statement}
+use Rattle.loader.proofs.passes.Tie as tie
+
+pub passes-spec : {M : Type 1} → statement M
+passes-spec =
+    tie.close
+    (tie.spec
+    (λ c. let a = c .before .args in sym (lt-ltb (a .left) (a .placed + a .due) (omega arith)))
+    (λ c. same-test _ _ _ (c .if1 .left)))
