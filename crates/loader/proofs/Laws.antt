@@ -43,6 +43,10 @@ use Rattle.stream.specs.Fine.{Fine, Roomy, store-fine, mark-kept, raised, undam
 pub so : {m n : Machine} {r : Load} {b : List ℕ} → m ≡ n → Leaves m r b → Leaves n r b
 so e l = record { state = l .state ∙ ap (λ (x : Machine). x .load) e; kept = l .kept ∙ ap (λ (x : Machine). x .buffer) e }
 
+-- and with an equal load state
+pub equal-load : {m : Machine} {r l : Load} {b : List ℕ} → r ≡ l → Leaves m l b → Leaves m r b
+equal-load e l = record { state = e ∙ l .state; kept = l .kept }
+
 -- a store into the image does not show once it is cleared
 pub cleared-set : (buffer : List ℕ) (i d : ℕ) → i < imageWords → cleared (set buffer i d) ≡ cleared buffer
 unfolding cleared

@@ -1,4 +1,5 @@
 // Loading: writes with a load state, and whole loads of words and of bytes.
+use crc::Both;
 use image::tables::Block;
 use image::tables::Table;
 use stream::Answer;
@@ -19,7 +20,8 @@ ghost use Rattle.stream.specs.Machine.{at, fresh, idle, headed, sized, filling,
 ghost use Rattle.stream.specs.Paper.{numbered, loadedWords, wordsOf, loadedBytes};
 ghost use Rattle.stream.specs.Bytes.{wordAt};
 ghost use Rattle.stream.specs.Ends.{cutShort, settled};
-ghost use Rattle.crc.specs.Crc.{checksum};
+ghost use Rattle.crc.specs.Crc.{checksum, wordsIn};
+ghost use Rattle.crc_long.specs.Turn.{AreTables};
 ghost use Rattle.stream.specs.Header.{idOf};
 ghost use Rattle.stream.specs.Fine.{Roomy, Fine};
 ghost use Rattle.stream.specs.declared.Phase.the-variants.{Data};
@@ -341,10 +343,11 @@ fn copy(image: &mut [u32], place: usize, words: &[u32])
     }
 }
 
-// A run of data words, no more than are due.
-fn data_run(image: &mut [u32], load: Load, words: &[u32]) -> Load
+// A run of data words, no more than are due, whose sums are known.
+fn stored(image: &mut [u32], load: Load, words: &[u32], sums: Both) -> Load
     requires { ⌜ (imageWords ≤ length (now image)) × Roomy Data load (now image) ⌝ }
     requires { ⌜ (0 < length (now words)) × (length (now words) ≤ load .due) × (load .phase ≡ Data) ⌝ }
+    requires { ⌜ (sums .block ≡ wordsIn (load .block) (now words)) × (sums .stream ≡ wordsIn (load .stream) (now words)) ⌝ }
     ensures { λ r. ⌜ Leaves (run (at load (now (image .entry))) (now (words .entry))) r (now (image .exit)) × (r .phase ≡ Data) ⌝ }
 {
     let table = load.table;
@@ -352,19 +355,52 @@ fn data_run(image: &mut [u32], load: Load, words: &[u32]) -> Load
     let due = load.due;
     let place = place_of(image, table, placed, due);
     copy(image, place, words);
-    let both = crc_short::words_in_both(
-        crc::Both {
-            block: load.block,
-            stream: load.stream,
-        },
-        words,
-    );
     filling(
         table,
         placed + words.len(),
         due - words.len(),
-        both.stream,
-        both.block,
+        sums.stream,
+        sums.block,
+    )
+}
+
+// The same by the short tables.
+fn data_run(image: &mut [u32], load: Load, words: &[u32]) -> Load
+    requires { ⌜ (imageWords ≤ length (now image)) × Roomy Data load (now image) ⌝ }
+    requires { ⌜ (0 < length (now words)) × (length (now words) ≤ load .due) × (load .phase ≡ Data) ⌝ }
+    ensures { λ r. ⌜ Leaves (run (at load (now (image .entry))) (now (words .entry))) r (now (image .exit)) × (r .phase ≡ Data) ⌝ }
+{
+    let sums = Both {
+        block: load.block,
+        stream: load.stream,
+    };
+    stored(image, load, words, crc_short::words_in_both(sums, words))
+}
+
+// The same by the long tables.
+fn data_run_long(
+    image: &mut [u32],
+    load: Load,
+    words: &[u32],
+    first: &[u32; 1024],
+    second: &[u32; 1024],
+    third: &[u32; 1024],
+    last: &[u32; 1024],
+) -> Load
+    requires { ⌜ (imageWords ≤ length (now image)) × Roomy Data load (now image) ⌝ }
+    requires { ⌜ (0 < length (now words)) × (length (now words) ≤ load .due) × (load .phase ≡ Data) ⌝ }
+    requires { ⌜ AreTables (now first) (now second) (now third) (now last) ⌝ }
+    ensures { λ r. ⌜ Leaves (run (at load (now (image .entry))) (now (words .entry))) r (now (image .exit)) × (r .phase ≡ Data) ⌝ }
+{
+    let sums = Both {
+        block: load.block,
+        stream: load.stream,
+    };
+    stored(
+        image,
+        load,
+        words,
+        crc_long::words_in_both(first, second, third, last, sums, words),
     )
 }
 
@@ -410,6 +446,82 @@ fn run(image: &mut [u32], load: Load, words: &[u32]) -> Load
     let mut i: usize = 0;
     while i < words.len() {
         let took = some(image, state, &words[i..]);
+        state = took.load;
+        i += took.count;
+    }
+    state
+}
+
+// The same load state, number by number: what a call left in memory and what stands in registers then meet in registers.
+fn again(load: Load) -> Load
+    ensures { λ r. ⌜ r ≡ load ⌝ }
+{
+    let phase = load.phase;
+    let table = load.table;
+    Load {
+        phase,
+        table,
+        placed: load.placed,
+        due: load.due,
+        first: load.first,
+        second: load.second,
+        stream: load.stream,
+        block: load.block,
+    }
+}
+
+// The words of a write, one after the other.
+fn run_write(image: &mut [u32], load: Load, words: &[u32]) -> Load
+    requires { ⌜ Fine (at load (now image)) ⌝ }
+    ensures { λ r. ⌜ Leaves (run (at load (now (image .entry))) (now (words .entry))) r (now (image .exit)) ⌝ }
+{
+    again(run(image, load, words))
+}
+
+// Some words of a whole load at once, its data by the long tables.
+fn some_long(
+    image: &mut [u32],
+    load: Load,
+    words: &[u32],
+    first: &[u32; 1024],
+    second: &[u32; 1024],
+    third: &[u32; 1024],
+    last: &[u32; 1024],
+) -> Took
+    requires { ⌜ Fine (at load (now image)) × (0 < length (now words)) ⌝ }
+    requires { ⌜ AreTables (now first) (now second) (now third) (now last) ⌝ }
+    ensures { λ r. ⌜ Takes load (now (image .entry)) (now (words .entry)) r (now (image .exit)) ⌝ }
+{
+    let phase = load.phase;
+    let due = load.due;
+    if let Phase::Data = phase {
+        if 0 < due {
+            let count = least(due, words.len());
+            let next = data_run_long(image, load, &words[..count], first, second, third, last);
+            return Took { load: next, count };
+        }
+    }
+    some(image, load, words)
+}
+
+// Words of a whole load, one after the other.
+fn run_long(
+    image: &mut [u32],
+    load: Load,
+    words: &[u32],
+    first: &[u32; 1024],
+    second: &[u32; 1024],
+    third: &[u32; 1024],
+    last: &[u32; 1024],
+) -> Load
+    requires { ⌜ Fine (at load (now image)) ⌝ }
+    requires { ⌜ AreTables (now first) (now second) (now third) (now last) ⌝ }
+    ensures { λ r. ⌜ Leaves (run (at load (now (image .entry))) (now (words .entry))) r (now (image .exit)) ⌝ }
+{
+    let mut state = load;
+    let mut i: usize = 0;
+    while i < words.len() {
+        let took = some_long(image, state, &words[i..], first, second, third, last);
         state = took.load;
         i += took.count;
     }
@@ -525,10 +637,10 @@ fn opened_run(image: &mut [u32], load: Load, words: &[u32]) -> Load
 {
     let phase = load.phase;
     if is_begun(phase) {
-        return run(image, load, words);
+        return run_write(image, load, words);
     }
     clear(image);
-    run(image, load, words)
+    run_write(image, load, words)
 }
 
 // A write's data of one block alone, one word or more, at the place where they go.
@@ -550,7 +662,7 @@ fn data_in(image: &mut [u32], load: Load, place: usize, words: &[u32]) -> Load
             crc::word_in(load.block, word),
         );
     }
-    data_run(image, load, words)
+    again(data_run(image, load, words))
 }
 
 // A write to a load that is inside a block. Mostly it has data of this block alone.
@@ -585,7 +697,7 @@ fn in_block(image: &mut [u32], load: Load, words: &[u32]) -> Wrote
             load: next,
         };
     }
-    let next = run(image, load, words);
+    let next = run_write(image, load, words);
     let phase = next.phase;
     Wrote {
         answer: answer_of(phase),
@@ -658,7 +770,15 @@ fn fresh_run(image: &mut [u32], words: &[u32]) -> Load
     ensures { λ r. ⌜ Leaves (run (at fresh (cleared (now (image .entry)))) (now (words .entry))) r (now (image .exit)) ⌝ }
 {
     clear(image);
-    run(image, fresh(), words)
+    run_long(
+        image,
+        fresh(),
+        words,
+        &crc_table::first(),
+        &crc_table::second(),
+        &crc_table::third(),
+        &crc_table::last(),
+    )
 }
 
 // A whole stream of words.

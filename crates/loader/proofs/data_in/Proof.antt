@@ -7,7 +7,7 @@ use borrow.Author.Needs.{needs}
 use denote.Ref.{now}
 use Rattle.image.specs.Layout.{imageWords, entryWords}
 use Rattle.stream.specs.declared.Load.{Load}
-use Rattle.loader.proofs.Laws.{so, only-word, filled-word}
+use Rattle.loader.proofs.Laws.{so, equal-load, only-word, filled-word}
 use Rattle.loader.proofs.data_in.Statement.{statement}
 use Rattle.loader.proofs.data_in.Tie as tie
 
@@ -48,5 +48,6 @@ data-in-spec =
     (λ c. search needs)
     returns
     (λ c κs. let s = c .before .before .before .before in (s .pre .0, s .pre .1 .1))
-    (λ c. search needs)
-    (λ c. search needs))
+    (λ c κs. search needs)
+    (λ c. c .before .before .before .data-run .kept .0)
+    (λ c. let d = c .before .before .before .data-run .ensures in (equal-load (c .again .ensures) (d .0), ap (λ (x : Load). x .phase) (c .again .ensures) ∙ d .1)))

@@ -14,8 +14,14 @@ fresh-run-spec =
     (tie.spec
     (λ c κs. search needs)
     (λ c κs. search needs)
-    (λ c κs. let a = c .before .before .before .before .before .before .before .before .args in
-    subst (λ (m : Machine). Fine m) (sym (started (c .fresh .result) _ (now (a .image)) (c .fresh .ensures) (c .before .before .before .before .clear .ensures))) (cleared-fine fresh (now (a .image)) tt))
-    (λ c. c .before .before .run .kept .0 ∙ c .before .before .before .before .before .before .before .clear .kept .0)
-    (λ c. let a = c .before .before .before .before .before .before .before .before .before .before .before .args in
-    so (ap (λ (m : Machine). run m (now (a .words))) (started (c .before .before .before .fresh .result) _ (now (a .image)) (c .before .before .before .fresh .ensures) (c .before .before .before .before .before .before .before .clear .ensures))) (c .before .before .run .ensures)))
+    (λ c κs. search needs)
+    (λ c κs. search needs)
+    (λ c κs. search needs)
+    (λ c κs. search needs)
+    (λ c κs. let a = c .before .before .before .before .before .before .before .before .before .before .before .before .before .before .before .before .args in
+    let f = c .before .before .before .before .before .before .before .before in
+    (subst (λ (m : Machine). Fine m) (sym (started (f .fresh .result) _ (now (a .image)) (f .fresh .ensures) (c .before .before .before .before .before .before .before .before .before .before .before .before .clear .ensures))) (cleared-fine fresh (now (a .image)) tt), record { one = c .before .before .before .before .before .before .before .first .ensures; two = c .before .before .before .before .before .second .ensures; three = c .before .before .before .third .ensures; four = c .before .last .ensures }))
+    (λ c. c .before .before .run-long .kept .0 ∙ c .before .before .before .before .before .before .before .before .before .before .before .before .before .before .before .clear .kept .0)
+    (λ c. let a = c .before .before .before .before .before .before .before .before .before .before .before .before .before .before .before .before .before .before .before .args in
+    let f = c .before .before .before .before .before .before .before .before .before .before .before in
+    so (ap (λ (m : Machine). run m (now (a .words))) (started (f .fresh .result) _ (now (a .image)) (f .fresh .ensures) (c .before .before .before .before .before .before .before .before .before .before .before .before .before .before .before .clear .ensures))) (c .before .before .run-long .ensures)))

@@ -117,7 +117,7 @@ returns-5 : tie.Need-returns-5
 returns-5 c =
     let e = c .before .before .before .before .before .before .before in
     let s = start e in
-    let r = c .before .before .before .run .ensures in
+    let r = c .before .before .before .run-write .ensures in
     wrote-as (s .args .load) (now (s .args .image)) (now (s .args .words)) _ _ _ (by-run e)
     (c .answer-of .ensures ∙ ap (λ (l : Load). answerOf (l .phase)) (r .state))
     (r .state)
@@ -143,5 +143,5 @@ in-block-spec =
     returns-4
     (λ c κs. fine (c .before .before .before))
     (λ c κs. search needs)
-    (λ c. c .before .before .before .run .kept .0)
+    (λ c. c .before .before .before .run-write .kept .0)
     returns-5)
