@@ -808,8 +808,17 @@ fn word_at(bytes: &[u8], i: usize) -> u32
 }
 
 // Bytes of 256 words at most: their words first, then these at once.
-fn chunk_run(image: &mut [u32], load: Load, bytes: &[u8]) -> Load
+fn chunk_run(
+    image: &mut [u32],
+    load: Load,
+    bytes: &[u8],
+    first: &[u32; 1024],
+    second: &[u32; 1024],
+    third: &[u32; 1024],
+    last: &[u32; 1024],
+) -> Load
     requires { ⌜ Fine (at load (now image)) × (length (now bytes) ≤ 1024) ⌝ }
+    requires { ⌜ AreTables (now first) (now second) (now third) (now last) ⌝ }
     ensures { λ r. ⌜ Leaves (run (at load (now (image .entry))) (wordsOf (now (bytes .entry)))) r (now (image .exit)) ⌝ }
 {
     let mut words = [0; 256];
@@ -818,7 +827,37 @@ fn chunk_run(image: &mut [u32], load: Load, bytes: &[u8]) -> Load
         words[k] = word_at(bytes, 4 * k);
         k += 1;
     }
-    run(image, load, &words[..k])
+    run_long(image, load, &words[..k], first, second, third, last)
+}
+
+// Bytes from a fresh load state and a zeroed image.
+fn chunks(
+    image: &mut [u32],
+    bytes: &[u8],
+    first: &[u32; 1024],
+    second: &[u32; 1024],
+    third: &[u32; 1024],
+    last: &[u32; 1024],
+) -> Load
+    requires { ⌜ Fine (at fresh (now image)) ⌝ }
+    requires { ⌜ AreTables (now first) (now second) (now third) (now last) ⌝ }
+    ensures { λ r. ⌜ Leaves (run (at fresh (now (image .entry))) (wordsOf (now (bytes .entry)))) r (now (image .exit)) ⌝ }
+{
+    let mut state = fresh();
+    let mut i: usize = 0;
+    while 1024 <= bytes.len() - i {
+        state = chunk_run(
+            image,
+            state,
+            &bytes[i..i + 1024],
+            first,
+            second,
+            third,
+            last,
+        );
+        i += 1024;
+    }
+    chunk_run(image, state, &bytes[i..], first, second, third, last)
 }
 
 // Bytes from a fresh load state.
@@ -827,13 +866,11 @@ fn bytes_run(image: &mut [u32], bytes: &[u8]) -> Load
     ensures { λ r. ⌜ Leaves (run (at fresh (cleared (now (image .entry)))) (wordsOf (now (bytes .entry)))) r (now (image .exit)) ⌝ }
 {
     clear(image);
-    let mut state = fresh();
-    let mut i: usize = 0;
-    while 1024 <= bytes.len() - i {
-        state = chunk_run(image, state, &bytes[i..i + 1024]);
-        i += 1024;
-    }
-    chunk_run(image, state, &bytes[i..])
+    let first = crc_table::first();
+    let second = crc_table::second();
+    let third = crc_table::third();
+    let last = crc_table::last();
+    chunks(image, bytes, &first, &second, &third, &last)
 }
 
 // A whole stream of bytes.
