@@ -1,7 +1,9 @@
 // The ledger as 119 numbers that are lent, in the order of `ledger::Ledger`: a frame and a release load and store only the cells that they touch.
+use judge::MOST_BYTES;
+use judge::MOST_FRAMES;
 use judge::Verdict;
+use judge::mistimed;
 use ledger::Answer;
-use ledger::range::LATEST;
 use passage::Passage;
 use passage::Way;
 use spend::Counts;
@@ -17,7 +19,7 @@ ghost use Rattle.ledger.specs.Range.{standing};
 ghost use Rattle.ledger.specs.Release.{unreleased, releaseRefusal, released, Releasable, Released};
 ghost use Rattle.spend.specs.Spend.{spentOf};
 ghost use Rattle.passage.specs.Laws.{Open, Through};
-ghost use Rattle.judge.specs.Refusal.{mistimed, unjudged, refusalOf};
+ghost use Rattle.judge.specs.Refusal.{unjudged, refusalOf};
 ghost use Rattle.judge.specs.Judge.{judged, meterOf, noted, charged, settledBy, settledWith, settledOf, byPassage, Judges};
 ghost use Rattle.judge.specs.Laws.{Countable};
 ghost use Rattle.cells.specs.Cells.{cellCount, ledgerIn, Holds, Leaves};
@@ -36,11 +38,6 @@ const OCTETS: usize = 108;
 const DROPPED: usize = 113;
 
 const LAST: usize = 118;
-
-// 35 and 38: the most bytes of a frame, and the frames of a port at which no more are counted.
-const MOST_BYTES: usize = 4096;
-
-const MOST_FRAMES: u64 = 4294967295;
 
 // 31, 30, 39; 0 where none of them refuses.
 fn standing_in(image: &[u32], cells: &[u64]) -> u32
@@ -67,16 +64,6 @@ fn standing_in(image: &[u32], cells: &[u64]) -> u32
         return 39;
     }
     0
-}
-
-// 34
-fn mistimed(last: u64, time: u64) -> bool
-    ensures { λ r. ⌜ r ≡ mistimed last time ⌝ }
-{
-    if time < last {
-        return true;
-    }
-    LATEST < time
 }
 
 // 33, 34, 35, 38; 0 where none refuses.

@@ -20,9 +20,9 @@ ghost use Rattle.judge.specs.Judge.{meterOf, noted, charged, settledBy, 
 ghost use Rattle.judge.specs.Laws.{Countable};
 
 // 35 and 38: the most bytes of a frame, and the frames of a port at which no more are counted.
-const MOST_BYTES: usize = 4096;
+pub const MOST_BYTES: usize = 4096;
 
-const MOST_FRAMES: u64 = 4294967295;
+pub const MOST_FRAMES: u64 = 4294967295;
 
 pub enum Verdict {
     Refused(u32),
@@ -36,7 +36,7 @@ pub struct Judged {
 }
 
 // 34
-fn mistimed(last: u64, time: u64) -> bool
+pub fn mistimed(last: u64, time: u64) -> bool
     ensures { λ r. ⌜ r ≡ mistimed last time ⌝ }
 {
     if time < last {

@@ -17,14 +17,24 @@ use Rattle.stream.specs.declared.Load.{Load}
 use Rattle.ledger.specs.declared.Ledger.{Ledger}
 use Rattle.ledger.specs.Range.{standing}
 use Rattle.ledger.specs.Fresh.{freshOf, noLedger, unloaded}
-use Rattle.ledger.specs.Release.{releaseRefusal, released}
+use Rattle.ledger.specs.declared.Answer.{Answer}
+use Rattle.ledger.specs.declared.Answer.the-variants as answer
+use Rattle.ledger.specs.Answers.{outcome}
+use Rattle.ledger.specs.Release.{releaseRefusal, released, Released}
 use Rattle.tile.specs.declared.shares.Tile.the-variants.{NotLoaded}
 use Rattle.tile.specs.declared.shares.Asked.the-variants.{Shown}
 use Rattle.tile.specs.Tiles.{askedOf}
+use Rattle.judge.specs.declared.Verdict.{Verdict}
 use Rattle.judge.specs.declared.Verdict.the-variants.{Refused}
+use Rattle.judge.specs.declared.Judged.{Judged}
 use Rattle.judge.specs.Refusal.{refusalOf}
-use Rattle.judge.specs.Judge.{judged, judgeOf}
+use Rattle.judge.specs.Judge.{judged, judgeOf, Judges}
 use Rattle.judge.specs.Proved.{refused-unchanged}
+use Rattle.cells.specs.Cells.{cellCount, ledgerIn}
+use Rattle.cells.specs.Proved.{one-ledger}
+use Rattle.tailbow_c.specs.declared.frames.FlatVerdict.{FlatVerdict}
+use Rattle.tailbow_c.specs.Frames.{flatVerdict}
+use Rattle.tailbow_c.specs.Lent.{JudgesLent, ReleasesLent}
 
 -- "A refused load leaves the lent image all zero"
 zero-unless-loaded : (f : Framed) → (outcomeOf f .number ≡ 0 → ⊥) → outcomeOf f .image ≡ replicate imageWords 0
@@ -81,6 +91,44 @@ refused-frame-changes-nothing = refused-unchanged
 pub refused-release-changes-nothing : (buffer : List ℕ) (g : Ledger) (partition : ℕ) → (releaseRefusal buffer g partition ≡ 0 → ⊥)
     → cond (eqb (releaseRefusal buffer g partition) 0) (released g partition) g ≡ g
 refused-release-changes-nothing buffer g partition h = ap (λ (t : Bool). cond t (released g partition) g) (ne-eqb (releaseRefusal buffer g partition) 0 h)
+
+-- a lent ledger: a refused call answers its number and leaves the 119 cells as they were, in `cells` and at the entries for C and Rust
+module _ (buffer cells : List ℕ) (all : length cells ≡ cellCount) (after : List ℕ) where
+  module _ (port time : ℕ) (frame : List ℕ) (refuses : refusalOf buffer (ledgerIn cells) port time frame ≡ 0 → ⊥) where
+    as-it-was : judgeOf buffer (ledgerIn cells) port time frame ≡ judged (Refused (refusalOf buffer (ledgerIn cells) port time frame)) (ledgerIn cells)
+    as-it-was = refused-frame-changes-nothing buffer (ledgerIn cells) port time frame refuses
+
+    pub refused-frame-keeps-the-cells : (r : Verdict)
+        → Judges buffer (ledgerIn cells) port time frame (judged r (ledgerIn after)) × (length after ≡ cellCount)
+        → (r ≡ Refused (refusalOf buffer (ledgerIn cells) port time frame)) × (after ≡ cells)
+    refused-frame-keeps-the-cells r p =
+        let e = p .0 .whole ∙ as-it-was in
+        (ap (λ (j : Judged). j .verdict) e, one-ledger after cells (p .1) all (ap (λ (j : Judged). j .ledger) e))
+
+    pub refused-frame-keeps-the-lent-ledger : (r : FlatVerdict) → JudgesLent buffer cells port time frame r after
+        → (r ≡ flatVerdict (Refused (refusalOf buffer (ledgerIn cells) port time frame))) × (after ≡ cells)
+    refused-frame-keeps-the-lent-ledger r p = (
+      p .verdict ∙ ap (λ (j : Judged). flatVerdict (j .verdict)) as-it-was,
+      one-ledger after cells (p .all) all (p .ledger ∙ ap (λ (j : Judged). j .ledger) as-it-was),
+    )
+
+  module _ (partition : ℕ) (refuses : releaseRefusal buffer (ledgerIn cells) partition ≡ 0 → ⊥) where
+    unreleased : cond (eqb (releaseRefusal buffer (ledgerIn cells) partition) 0) (released (ledgerIn cells) partition) (ledgerIn cells) ≡ ledgerIn cells
+    unreleased = refused-release-changes-nothing buffer (ledgerIn cells) partition refuses
+
+    pub refused-release-keeps-the-cells : (r : Answer)
+        → Released buffer (ledgerIn cells) partition (outcome r (ledgerIn after)) × (length after ≡ cellCount)
+        → (r ≡ answer.Refused (releaseRefusal buffer (ledgerIn cells) partition)) × (after ≡ cells)
+    refused-release-keeps-the-cells r p = (
+      p .0 .answer
+          ∙ ap (λ (t : Bool). cond t answer.Done (answer.Refused (releaseRefusal buffer (ledgerIn cells) partition)))
+          (ne-eqb (releaseRefusal buffer (ledgerIn cells) partition) 0 refuses),
+      one-ledger after cells (p .1) all (p .0 .ledger ∙ unreleased),
+    )
+
+    pub refused-release-keeps-the-lent-ledger : (r : ℕ) → ReleasesLent buffer cells partition r after
+        → (r ≡ releaseRefusal buffer (ledgerIn cells) partition) × (after ≡ cells)
+    refused-release-keeps-the-lent-ledger r p = (p .number, one-ledger after cells (p .all) all (p .ledger ∙ unreleased))
 
 stands-30 : (buffer : List ℕ) (g : Ledger) → tooShort buffer ≡ false → notLoaded (imageIn buffer) ≡ true → standing buffer g ≡ 30
 unfolding standing
