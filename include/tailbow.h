@@ -148,8 +148,8 @@ struct tailbow_load tailbow_fresh_load(void);
  *
  * 31  image_words is below TAILBOW_IMAGE_WORDS.
  * 30  The phase is above 5 or the table above 8; or, for a load that has begun (any phase but TAILBOW_PHASE_FRESH), some table's
- *     count in the image is above its most entries, or in TAILBOW_PHASE_DATA more words are placed and due than the
- *     table has room for. A first write of a sound state never gives it, whatever the image holds.
+ *     count in the image is above its most entries, or in TAILBOW_PHASE_DATA more words are placed and due than the table has
+ *     room for behind the entries it has. A first write with a table up to 8 never gives it, whatever the image holds.
  * 32  count is 0 or above TAILBOW_WRITE_WORDS.
  *
  * Each of these leaves the image and the load state as found. Then, if the load's answer has been told, that answer is repeated: image and
@@ -364,58 +364,60 @@ struct tailbow_record tailbow_record_at(const uint8_t *list, size_t bytes, size_
 #endif
 
 #ifdef TAILBOW_HOLDS
-#define TAILBOW_AT(type, field, place) TAILBOW_HOLDS(offsetof(struct type, field) == (place), #type "." #field)
+/* A field's place and length, and a struct's length, in bytes. */
+#define TAILBOW_AT(type, field, place, bytes) \
+    TAILBOW_HOLDS(offsetof(struct type, field) == (place) && sizeof(((struct type *)0)->field) == (bytes), #type "." #field)
 #define TAILBOW_LONG(type, bytes) TAILBOW_HOLDS(sizeof(struct type) == (bytes), #type)
 TAILBOW_HOLDS(sizeof(size_t) == 8, "the archive is for x86-64");
-TAILBOW_AT(tailbow_load, phase, 0);
-TAILBOW_AT(tailbow_load, told, 4);
-TAILBOW_AT(tailbow_load, table, 8);
-TAILBOW_AT(tailbow_load, placed, 16);
-TAILBOW_AT(tailbow_load, due, 24);
-TAILBOW_AT(tailbow_load, first, 32);
-TAILBOW_AT(tailbow_load, second, 36);
-TAILBOW_AT(tailbow_load, stream, 40);
-TAILBOW_AT(tailbow_load, block, 44);
+TAILBOW_AT(tailbow_load, phase, 0, 4);
+TAILBOW_AT(tailbow_load, told, 4, 4);
+TAILBOW_AT(tailbow_load, table, 8, 4);
+TAILBOW_AT(tailbow_load, placed, 16, 8);
+TAILBOW_AT(tailbow_load, due, 24, 8);
+TAILBOW_AT(tailbow_load, first, 32, 4);
+TAILBOW_AT(tailbow_load, second, 36, 4);
+TAILBOW_AT(tailbow_load, stream, 40, 4);
+TAILBOW_AT(tailbow_load, block, 44, 4);
 TAILBOW_LONG(tailbow_load, 48);
-TAILBOW_AT(tailbow_wrote, answer, 0);
-TAILBOW_AT(tailbow_wrote, load, 8);
+TAILBOW_AT(tailbow_wrote, answer, 0, 4);
+TAILBOW_AT(tailbow_wrote, load, 8, 48);
 TAILBOW_LONG(tailbow_wrote, 56);
-TAILBOW_AT(tailbow_ledger, units, 0);
-TAILBOW_AT(tailbow_ledger, credit, 64);
-TAILBOW_AT(tailbow_ledger, since, 424);
-TAILBOW_AT(tailbow_ledger, frames, 784);
-TAILBOW_AT(tailbow_ledger, drops, 824);
-TAILBOW_AT(tailbow_ledger, octets, 864);
-TAILBOW_AT(tailbow_ledger, dropped, 904);
-TAILBOW_AT(tailbow_ledger, last, 944);
+TAILBOW_AT(tailbow_ledger, units, 0, 64);
+TAILBOW_AT(tailbow_ledger, credit, 64, 360);
+TAILBOW_AT(tailbow_ledger, since, 424, 360);
+TAILBOW_AT(tailbow_ledger, frames, 784, 40);
+TAILBOW_AT(tailbow_ledger, drops, 824, 40);
+TAILBOW_AT(tailbow_ledger, octets, 864, 40);
+TAILBOW_AT(tailbow_ledger, dropped, 904, 40);
+TAILBOW_AT(tailbow_ledger, last, 944, 8);
 TAILBOW_LONG(tailbow_ledger, 952);
-TAILBOW_AT(tailbow_outcome, number, 0);
-TAILBOW_AT(tailbow_outcome, ledger, 8);
+TAILBOW_AT(tailbow_outcome, number, 0, 4);
+TAILBOW_AT(tailbow_outcome, ledger, 8, 952);
 TAILBOW_LONG(tailbow_outcome, 960);
-TAILBOW_AT(tailbow_verdict, kind, 0);
-TAILBOW_AT(tailbow_verdict, number, 4);
-TAILBOW_AT(tailbow_verdict, ports, 8);
-TAILBOW_AT(tailbow_verdict, vlan, 16);
-TAILBOW_AT(tailbow_verdict, priority, 24);
-TAILBOW_AT(tailbow_verdict, tags, 32);
-TAILBOW_AT(tailbow_verdict, queues, 40);
+TAILBOW_AT(tailbow_verdict, kind, 0, 4);
+TAILBOW_AT(tailbow_verdict, number, 4, 4);
+TAILBOW_AT(tailbow_verdict, ports, 8, 8);
+TAILBOW_AT(tailbow_verdict, vlan, 16, 8);
+TAILBOW_AT(tailbow_verdict, priority, 24, 8);
+TAILBOW_AT(tailbow_verdict, tags, 32, 8);
+TAILBOW_AT(tailbow_verdict, queues, 40, 40);
 TAILBOW_LONG(tailbow_verdict, 80);
-TAILBOW_AT(tailbow_judged, verdict, 0);
-TAILBOW_AT(tailbow_judged, ledger, 80);
+TAILBOW_AT(tailbow_judged, verdict, 0, 80);
+TAILBOW_AT(tailbow_judged, ledger, 80, 952);
 TAILBOW_LONG(tailbow_judged, 1032);
-TAILBOW_AT(tailbow_port_tile, kind, 0);
-TAILBOW_AT(tailbow_port_tile, number, 4);
-TAILBOW_AT(tailbow_port_tile, share, 8);
-TAILBOW_AT(tailbow_port_tile, octets, 16);
+TAILBOW_AT(tailbow_port_tile, kind, 0, 4);
+TAILBOW_AT(tailbow_port_tile, number, 4, 4);
+TAILBOW_AT(tailbow_port_tile, share, 8, 8);
+TAILBOW_AT(tailbow_port_tile, octets, 16, 8);
 TAILBOW_LONG(tailbow_port_tile, 24);
-TAILBOW_AT(tailbow_record, kind, 0);
-TAILBOW_AT(tailbow_record, number, 4);
-TAILBOW_AT(tailbow_record, time, 8);
-TAILBOW_AT(tailbow_record, port, 16);
-TAILBOW_AT(tailbow_record, partition, 24);
-TAILBOW_AT(tailbow_record, start, 32);
-TAILBOW_AT(tailbow_record, count, 40);
-TAILBOW_AT(tailbow_record, next, 48);
+TAILBOW_AT(tailbow_record, kind, 0, 4);
+TAILBOW_AT(tailbow_record, number, 4, 4);
+TAILBOW_AT(tailbow_record, time, 8, 8);
+TAILBOW_AT(tailbow_record, port, 16, 8);
+TAILBOW_AT(tailbow_record, partition, 24, 8);
+TAILBOW_AT(tailbow_record, start, 32, 8);
+TAILBOW_AT(tailbow_record, count, 40, 8);
+TAILBOW_AT(tailbow_record, next, 48, 8);
 TAILBOW_LONG(tailbow_record, 56);
 #undef TAILBOW_AT
 #undef TAILBOW_LONG

@@ -105,10 +105,21 @@ fn both_declare_the_same_functions() {
     assert_eq!(theirs, functions(declared));
 }
 
-/// A struct's size and the places of its fields, as the header asserts them.
+/// The bytes of the field that is read so.
+fn length_of<Struct, Field>(_: fn(&Struct) -> &Field) -> usize {
+    size_of::<Field>()
+}
+
+/// The places and lengths of a struct's fields, and its own length, as the header asserts them.
 macro_rules! layout {
     ($lines:ident, $name:literal, $struct:ident, $($field:ident),*) => {
-        $($lines.push(format!("TAILBOW_AT({}, {}, {});", $name, stringify!($field), offset_of!($struct, $field)));)*
+        $($lines.push(format!(
+            "TAILBOW_AT({}, {}, {}, {});",
+            $name,
+            stringify!($field),
+            offset_of!($struct, $field),
+            length_of(|whole: &$struct| &whole.$field)
+        ));)*
         $lines.push(format!("TAILBOW_LONG({}, {});", $name, size_of::<$struct>()));
     };
 }
