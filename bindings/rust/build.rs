@@ -9,6 +9,8 @@ fn main() {
         Some(folder) => PathBuf::from(folder),
         None => repository.join("target/staticlib"),
     };
+    // A relative path is one from this crate's folder; the linker may stand elsewhere.
+    let folder = folder.canonicalize().unwrap_or(folder);
     let archive = folder.join("libtailbow_c.a");
     if !archive.is_file() {
         println!(

@@ -26,8 +26,8 @@ impl Answer {
 
 /// A load under way: what is carried from one write to the next. The words that have come stand in the image.
 ///
-/// A load belongs to one image. If the image is changed between two writes, the next write answers what document 01 says
-/// of such an image: it may be 30, and it is never more than the buffer holds.
+/// A load belongs to one image. Where that was changed between two writes the next one may be refused with 30; nothing outside
+/// the image is written in any case.
 #[derive(Clone, Copy, PartialEq, Eq, Debug)]
 pub struct Load {
     flat: raw::FlatLoad,

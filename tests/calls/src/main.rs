@@ -1,5 +1,6 @@
 //! `calls [--seed SEED] [--rounds ROUNDS] [--nights NIGHTS]`: the proved entries, linked, compared call by call with the second program.
-//! One run is a night's work with one seed, which is printed. With `--nights` so many follow, each with a fresh seed.
+//! One run is a night's work with one seed, which is printed. With `--nights` there are so many, each with a fresh seed; `--seed` with
+//! a printed seed, and no `--nights`, makes that night's calls again.
 
 mod cuttings;
 mod flips;
@@ -86,11 +87,12 @@ fn main() -> ExitCode {
     };
     let mut tally = Tally::default();
     for seed in seeds(&asked) {
-        let (began, before) = (Instant::now(), tally.calls());
+        let (began, calls, failed) = (Instant::now(), tally.calls(), tally.failed());
         println!("seed {seed}, {} rounds", asked.rounds);
         night(seed, asked.rounds, &mut tally);
+        let (calls, failed) = (tally.calls() - calls, tally.failed() - failed);
         let seconds = began.elapsed().as_secs_f64();
-        println!("seed {seed}: {} calls in {seconds:.1} s", tally.calls() - before);
+        println!("seed {seed}: {calls} calls in {seconds:.1} s, {failed} comparisons failed");
     }
     if tally.finish() {
         ExitCode::SUCCESS

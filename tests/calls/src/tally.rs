@@ -118,6 +118,10 @@ impl Tally {
         self.answers.values().sum()
     }
 
+    pub fn failed(&self) -> usize {
+        self.failures.len()
+    }
+
     /// Prints the answers, what is missing and what failed; the last line counts. True where all is well.
     pub fn finish(mut self) -> bool {
         self.print();
