@@ -1,5 +1,6 @@
 //! One bit turned over at a time: in an image's counts, mark and entries, in each number of a load state, in each number of a ledger.
 
+use cases::damage::blocks_in;
 use cases::generate::{later, random_config, random_frame, Profile};
 use cases::rng::Rng;
 use reference::image::{of_lists, FIRST_COUNT, IMAGE_WORDS};
@@ -102,9 +103,16 @@ fn turned(flat: &FlatLoad, bit: u32) -> FlatLoad {
 
 const STATE_BITS: u32 = 7 * 32 + 2 * 64;
 
-/// Where a stream's load is edited: before it, in each phase of its first blocks, and after its answer.
+/// Where a stream's load is edited: before it, at each word of its first header, inside and behind that block's data, between two
+/// blocks, half way, and around its answer.
 fn moments(words: &[u32]) -> Vec<usize> {
-    vec![0, 1, 2, 3, 4, 5, 6, words.len() / 2, words.len() - 2, words.len() - 1, words.len()]
+    let block = blocks_in(words)[0];
+    let data = block.start + 3;
+    let checksum = data + block.data;
+    let header = 0..=data;
+    let end = words.len() - 2..=words.len();
+    let others = [data + 1, checksum - 1, checksum, checksum + 1, words.len() / 2];
+    header.chain(others).chain(end).collect()
 }
 
 /// A stream's load up to a place, word after word.
