@@ -7,8 +7,8 @@ use reference::judge::{self, FrameAnswer, ReleaseAnswer};
 use reference::ledger::{self, Ledger, PortCounts, LAST_TIME};
 use reference::tile::{self, TileAnswer};
 
-use crate::frame_entries::{self as entries, FlatLedger, FlatOutcome, FlatTile, FlatVerdict};
-use crate::tally::{same, Tally};
+use crate::tally::{same, Answer, Tally};
+use tailbow::raw::{self as entries, FlatLedger, FlatOutcome, FlatTile, FlatVerdict};
 
 /// Calls in a sequence.
 const STEPS: usize = 32;
@@ -100,7 +100,7 @@ fn narrow(number: usize) -> u32 {
     u32::try_from(number).unwrap_or(u32::MAX)
 }
 
-fn fresh(tally: &mut Tally, name: &str, image: &[u32]) -> Option<Ledger> {
+pub fn fresh(tally: &mut Tally, name: &str, image: &[u32]) -> Option<Ledger> {
     let ours = entries::fresh_ledger(image);
     let theirs = ledger::fresh_ledger(image);
     let (number, expected) = match theirs {
@@ -108,11 +108,27 @@ fn fresh(tally: &mut Tally, name: &str, image: &[u32]) -> Option<Ledger> {
         Err(number) => (number, ledger::no_ledger()),
     };
     let expected = FlatOutcome { number, ledger: flat(&expected) };
-    tally.call("fresh_ledger", ours.number, same(name, ours, expected));
+    tally.call("fresh_ledger", Answer::of_number(ours.number, "done"), same(name, ours, expected));
     theirs.ok()
 }
 
-fn frame(
+/// A ledger that is lent, between two words that are nobody's.
+#[repr(C)]
+#[derive(Clone, Copy, PartialEq, Eq, Debug)]
+struct Lent {
+    before: u64,
+    ledger: FlatLedger,
+    after: u64,
+}
+
+impl Lent {
+    fn of(ledger: &Ledger) -> Lent {
+        Lent { before: 0x5A5A_0001, ledger: flat(ledger), after: 0x5A5A_0002 }
+    }
+}
+
+/// A frame by both entries: the ledger by value, and lent.
+pub fn frame(
     tally: &mut Tally,
     name: &str,
     image: &[u32],
@@ -120,36 +136,58 @@ fn frame(
     (port, time): (usize, u64),
     frame: &[u8],
 ) -> Ledger {
-    let ours = entries::judge(image, flat(&ledger), port, time, frame);
     let (answer, after) = judge::judge(image, ledger, narrow(port), time, frame);
-    let compared = same(name, ours.verdict, flat_verdict(answer))
-        .and(same(name, ours.ledger, flat(&after)))
-        .map_err(|failure| format!("port {port}, time {time}, {frame:02X?}: {failure}"));
-    tally.call("judge", ours.verdict.number, compared);
+    let expected = flat_verdict(answer);
+    let said = |failure| format!("{name}: port {port}, time {time}, {frame:02X?}: {failure}");
+    let ours = entries::judge(image, flat(&ledger), port, time, frame);
+    let compared = same("verdict", ours.verdict, expected)
+        .and(same("ledger", ours.ledger, flat(&after)))
+        .map_err(said);
+    tally.call("judge", verdict_answer(&ours.verdict), compared);
+    let mut lent = Lent::of(&ledger);
+    let verdict = entries::judge_lent(image, &mut lent.ledger, port, time, frame);
+    let compared = same("verdict", verdict, expected)
+        .and(same("lent ledger", lent, Lent::of(&after)))
+        .map_err(said);
+    tally.call("judge_lent", verdict_answer(&verdict), compared);
     after
 }
 
-fn release(
+fn verdict_answer(verdict: &FlatVerdict) -> Answer {
+    match verdict.kind {
+        0 => Answer::Refused(verdict.number),
+        1 => Answer::Drop(verdict.number),
+        _ => Answer::Told("sent"),
+    }
+}
+
+/// A release by both entries.
+pub fn release(
     tally: &mut Tally,
     name: &str,
     image: &[u32],
     ledger: Ledger,
     partition: usize,
 ) -> Ledger {
-    let ours = entries::release(image, flat(&ledger), partition);
     let (answer, after) = judge::release(image, ledger, narrow(partition));
     let number = match answer {
         ReleaseAnswer::Refused(number) => number,
         ReleaseAnswer::Released => 0,
     };
+    let said = |failure| format!("{name}: partition {partition}: {failure}");
+    let ours = entries::release(image, flat(&ledger), partition);
     let expected = FlatOutcome { number, ledger: flat(&after) };
-    let compared = same(name, ours, expected);
-    tally.call("release", ours.number, compared.map_err(|e| format!("{partition}: {e}")));
+    let compared = same("outcome", ours, expected).map_err(said);
+    tally.call("release", Answer::of_number(ours.number, "done"), compared);
+    let mut lent = Lent::of(&ledger);
+    let told = entries::release_lent(image, &mut lent.ledger, partition);
+    let compared =
+        same("number", told, number).and(same("lent ledger", lent, Lent::of(&after))).map_err(said);
+    tally.call("release_lent", Answer::of_number(told, "done"), compared);
     after
 }
 
-/// Counted by the refusal's number, or by the kind of what is shown.
-fn show(tally: &mut Tally, name: &str, image: &[u32], ledger: Ledger, port: usize) {
+pub fn show(tally: &mut Tally, name: &str, image: &[u32], ledger: Ledger, port: usize) {
     let ours = entries::tile(image, flat(&ledger), port);
     let shown = |kind, number, share, octets| FlatTile { kind, number, share, octets };
     let expected = match tile::tile(image, &ledger, narrow(port)) {
@@ -158,9 +196,14 @@ fn show(tally: &mut Tally, name: &str, image: &[u32], ledger: Ledger, port: usiz
         TileAnswer::NoFrames => shown(2, 0, 0, 0),
         TileAnswer::Shares { frames, octets } => shown(3, 0, frames.to_bits(), octets.to_bits()),
     };
-    let compared = same(name, ours, expected);
-    let answer = if ours.kind == 0 { ours.number } else { ours.kind };
-    tally.call("tile", answer, compared.map_err(|failure| format!("port {port}: {failure}")));
+    let compared = same("tile", ours, expected);
+    let answer = match ours.kind {
+        0 => Answer::Refused(ours.number),
+        1 => Answer::Told("not-loaded"),
+        2 => Answer::Told("no-frames"),
+        _ => Answer::Told("shares"),
+    };
+    tally.call("tile", answer, compared.map_err(|e| format!("{name}: port {port}: {e}")));
 }
 
 /// A ledger's numbers.

@@ -1,8 +1,11 @@
-//! `calls [SEED] [ROUNDS]`: the proved entries, linked, compared call by call with the second program.
+//! `calls [--seed SEED] [--rounds ROUNDS] [--nights NIGHTS]`: the proved entries, linked, compared call by call with the second program.
+//! One run is a night's work with one seed, which is printed. With `--nights` there are so many, each with a fresh seed; `--seed` with
+//! a printed seed, and no `--nights`, makes that night's calls again.
 
-mod entries;
-mod frame_entries;
+mod cuttings;
+mod flips;
 mod frames;
+mod lists;
 mod pair;
 mod states;
 mod streams;
@@ -11,6 +14,7 @@ mod walks;
 
 use std::path::PathBuf;
 use std::process::ExitCode;
+use std::time::{Instant, SystemTime, UNIX_EPOCH};
 
 use cases::damage::{flip, one_entry_a_block, rearranged, refusal_of_flip};
 use cases::generate::{random_config, random_stream, Profile};
@@ -18,12 +22,12 @@ use cases::rng::Rng;
 use cases::{boundaries, check, fixed};
 use reference::image::{of_lists, IMAGE_WORDS};
 use reference::stream::{bytes_of, words_of};
+use tailbow::raw::{self as entries, FlatLoad, MORE};
 
-use entries::{FlatLoad, MORE};
 use frames::sequence;
 use pair::{load_bytes, load_words, Pair};
 use streams::{dirty, every_way, with_edits};
-use tally::{same, Tally};
+use tally::{same, Answer, Tally};
 use walks::walk;
 
 const SEED: u64 = 1105;
@@ -36,26 +40,79 @@ const BOUNDARIES_EVERY: u64 = 300;
 const VECTORS: [&str; 7] =
     ["01_min", "02_K", "06_rand", "13_maxfields", "15_mem929", "16_mem930", "21_short08"];
 
-fn main() -> ExitCode {
-    let number = |place: usize, otherwise: u64| match std::env::args().nth(place) {
-        Some(text) => text.parse().unwrap_or(otherwise),
-        None => otherwise,
+/// What is asked for.
+struct Asked {
+    seed: Option<u64>,
+    rounds: u64,
+    nights: Option<u64>,
+}
+
+fn asked() -> Result<Asked, String> {
+    let mut asked = Asked { seed: None, rounds: ROUNDS, nights: None };
+    let mut arguments = std::env::args().skip(1);
+    while let Some(name) = arguments.next() {
+        let value = arguments.next().and_then(|value| value.parse().ok());
+        let Some(number) = value else {
+            return Err(format!("{name}: a number is wanted behind it"));
+        };
+        match name.as_str() {
+            "--seed" => asked.seed = Some(number),
+            "--rounds" => asked.rounds = number,
+            "--nights" => asked.nights = Some(number),
+            _ => return Err(format!("{name} is not known")),
+        }
+    }
+    Ok(asked)
+}
+
+/// The nights' seeds: the given or usual one for one night; for more, numbers that follow from the given one or from the clock.
+fn seeds(asked: &Asked) -> Vec<u64> {
+    let Some(nights) = asked.nights else {
+        return vec![asked.seed.unwrap_or(SEED)];
     };
-    let (seed, rounds) = (number(1, SEED), number(2, ROUNDS));
-    println!("seed {seed}, {rounds} rounds");
+    let clock = SystemTime::now().duration_since(UNIX_EPOCH).map_or(0, |since| since.as_nanos());
+    let first = asked.seed.unwrap_or(clock as u64);
+    println!("{nights} nights from seed {first}");
+    let mut rng = Rng::new(first);
+    (0..nights).map(|_| rng.next()).collect()
+}
+
+fn main() -> ExitCode {
+    let asked = match asked() {
+        Ok(asked) => asked,
+        Err(wrong) => {
+            eprintln!("calls: {wrong}");
+            return ExitCode::FAILURE;
+        }
+    };
     let mut tally = Tally::default();
-    let mut rng = Rng::new(seed);
-    fresh(&mut tally);
-    vectors(&mut rng, &mut tally);
-    named(&mut rng, &mut tally);
-    for round in 0..rounds {
-        generated(&mut rng, &mut tally, round);
-        judged(&mut rng, &mut tally, round);
+    for seed in seeds(&asked) {
+        let (began, calls, failed) = (Instant::now(), tally.calls(), tally.failed());
+        println!("seed {seed}, {} rounds", asked.rounds);
+        night(seed, asked.rounds, &mut tally);
+        let (calls, failed) = (tally.calls() - calls, tally.failed() - failed);
+        let seconds = began.elapsed().as_secs_f64();
+        println!("seed {seed}: {calls} calls in {seconds:.1} s, {failed} comparisons failed");
     }
     if tally.finish() {
         ExitCode::SUCCESS
     } else {
         ExitCode::FAILURE
+    }
+}
+
+/// What needs no seed and what does, once; then the rounds.
+fn night(seed: u64, rounds: u64, tally: &mut Tally) {
+    let mut rng = Rng::new(seed);
+    fresh(tally);
+    vectors(&mut rng, tally);
+    named(&mut rng, tally);
+    cut(&mut rng, tally);
+    turned_over(&mut rng, tally);
+    for round in 0..rounds {
+        generated(&mut rng, tally, round);
+        judged(&mut rng, tally, round);
+        lists::generated(&mut rng, tally, &format!("list {round}"));
     }
 }
 
@@ -72,7 +129,8 @@ fn fresh(tally: &mut Tally) {
         stream: 0,
         block: 0,
     };
-    tally.result(same("a fresh load", entries::fresh_load(), zero));
+    let compared = same("a fresh load", entries::fresh_load(), zero);
+    tally.call("fresh_load", Answer::Told("done"), compared);
 }
 
 fn vector(name: &str) -> Vec<u8> {
@@ -86,9 +144,6 @@ fn vectors(rng: &mut Rng, tally: &mut Tally) {
     for name in VECTORS {
         let bytes = vector(name);
         every_way(rng, tally, name, &bytes);
-        if bytes.len() > 4 * 1000 {
-            continue;
-        }
         for length in (0..bytes.len()).step_by(4) {
             let cut = format!("{name} cut behind {length} bytes");
             let answer = every_way(rng, tally, &cut, &bytes[..length]);
@@ -99,7 +154,7 @@ fn vectors(rng: &mut Rng, tally: &mut Tally) {
     let buffer = dirty(rng);
     for length in 0..bytes.len() {
         let cut = format!("01_min cut behind {length} bytes");
-        let expected = if length % 4 == 0 { 10 } else { 9 };
+        let expected = if bytes[..length].chunks_exact(4).remainder().is_empty() { 10 } else { 9 };
         let (answer, _) = load_bytes(tally, &cut, &buffer, &bytes[..length]);
         tally.result(same(&cut, answer, expected));
     }
@@ -115,7 +170,7 @@ fn vectors(rng: &mut Rng, tally: &mut Tally) {
     short_buffers(tally, &bytes);
 }
 
-/// 31 of every entry, at each side of the image's length.
+/// 31 of every entry that loads, at each side of the image's length.
 fn short_buffers(tally: &mut Tally, bytes: &[u8]) {
     let words = words_of(bytes);
     for length in [0, 1, 11_430, IMAGE_WORDS - 1, IMAGE_WORDS, IMAGE_WORDS + 1] {
@@ -133,11 +188,35 @@ fn short_buffers(tally: &mut Tally, bytes: &[u8]) {
     }
 }
 
-/// Every named stream, and damage that needs no seed.
+/// Every named stream and list, and damage that needs no seed.
 fn named(rng: &mut Rng, tally: &mut Tally) {
-    for case in check::named().iter().chain(&fixed::cases()) {
+    let cases = [check::named(), fixed::cases()].concat();
+    for case in &cases {
         every_way(rng, tally, &case.name, &case.stream);
     }
+    let boundaries = boundaries::cases(rng);
+    lists::of_cases(rng, tally, &[cases, boundaries].concat());
+    lists::fixed(rng, tally);
+}
+
+/// Short streams in every cutting, and a stream that loads in every stride.
+fn cut(rng: &mut Rng, tally: &mut Tally) {
+    let buffer = dirty(rng);
+    cuttings::every_cutting(tally, &buffer);
+    cuttings::every_stride(tally, "01_min", &buffer, &words_of(&vector("01_min")));
+}
+
+/// Images, ledgers and load states, one bit at a time.
+fn turned_over(rng: &mut Rng, tally: &mut Tally) {
+    flips::images(rng, tally);
+    flips::ledgers(rng, tally);
+    let buffer = dirty(rng);
+    flips::loads(tally, &buffer, &words_of(&vector("01_min")));
+}
+
+/// True once in so many rounds, in the first, too.
+fn once_in(rounds: u64, round: u64) -> bool {
+    matches!(round % rounds, 0)
 }
 
 /// A generated stream, whole and with edits, and a walk; now and then full tables and every boundary.
@@ -149,12 +228,12 @@ fn generated(rng: &mut Rng, tally: &mut Tally, round: u64) {
     every_way(rng, tally, &name, &bytes);
     let words = match rng.below(8) {
         0 => words_of(&bytes),
-        1 if round % FULL_EVERY != 0 => one_entry_a_block(&lists),
+        1 if !once_in(FULL_EVERY, round) => one_entry_a_block(&lists),
         _ => rearranged(rng, &lists),
     };
     with_edits(rng, tally, &name, &words);
     walk(rng, tally, &name, &lists);
-    if round % BOUNDARIES_EVERY == 0 {
+    if once_in(BOUNDARIES_EVERY, round) {
         for case in boundaries::cases(rng) {
             every_way(rng, tally, &case.name, &case.stream);
         }
@@ -164,7 +243,7 @@ fn generated(rng: &mut Rng, tally: &mut Tally, round: u64) {
 /// Frames, releases and tiles on a configuration that loads; once in a while with full tables.
 fn judged(rng: &mut Rng, tally: &mut Tally, round: u64) {
     let profile = match rng.below(4) {
-        _ if round % FULL_EVERY == 0 => Profile::Full,
+        _ if once_in(FULL_EVERY, round) => Profile::Full,
         0 => Profile::Valid,
         _ => Profile::Near,
     };
@@ -175,7 +254,7 @@ fn judged(rng: &mut Rng, tally: &mut Tally, round: u64) {
 }
 
 fn profile(rng: &mut Rng, round: u64) -> Profile {
-    if round % FULL_EVERY == 0 {
+    if once_in(FULL_EVERY, round) {
         return Profile::Full;
     }
     match rng.below(4) {

@@ -3,9 +3,9 @@
 use reference::image::IMAGE_WORDS;
 use reference::load::{self, LoadAnswer, LoadState};
 
-use crate::entries::{self, FlatLoad};
 use crate::states::{is_state, meaning, number_of, state_of, told_with, TOLD};
-use crate::tally::{same, same_words, Tally};
+use crate::tally::{same, same_words, Answer, Tally};
+use tailbow::raw::{self as entries, FlatLoad};
 
 /// A whole load of words; gives the answer and the buffer.
 pub fn load_words(tally: &mut Tally, name: &str, buffer: &[u32], words: &[u32]) -> Told {
@@ -38,7 +38,8 @@ fn whole(
     let answer = calls.0(&mut ours);
     let expected = number_of(calls.1(&mut theirs));
     let compared = same("answer", answer, expected).and(same_words("buffer", &ours, &theirs));
-    tally.call(entry, answer, compared.map_err(|failure| format!("{name}: {failure}")));
+    let compared = compared.map_err(|failure| format!("{name}: {failure}"));
+    tally.call(entry, Answer::of_number(answer, "loaded"), compared);
     (answer, ours)
 }
 
@@ -84,7 +85,12 @@ impl Pair {
         if let Err(failure) = &mut compared {
             *failure = format!("{name}: a write of {words:08X?} at {flat:?}: {failure}");
         }
-        tally.call("write", wrote.answer, compared);
+        let answer = if flat.phase == TOLD && wrote.answer == flat.told {
+            Answer::Told("repeated")
+        } else {
+            Answer::of_number(wrote.answer, "loaded")
+        };
+        tally.call("write", answer, compared);
         wrote.answer
     }
 

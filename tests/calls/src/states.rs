@@ -4,7 +4,7 @@ use cases::rng::Rng;
 use reference::load::{LoadAnswer, LoadState, Phase};
 use reference::tables::ROWS;
 
-use crate::entries::{FlatLoad, MORE};
+use tailbow::raw::{FlatLoad, MORE};
 
 pub const PHASES: u32 = 6;
 pub const FRESH: u32 = 0;

@@ -7,10 +7,10 @@ use reference::image::{count_place, IMAGE_WORDS};
 use reference::stream::words_of;
 use reference::tables::ROWS;
 
-use crate::entries::MORE;
 use crate::pair::{load_bytes, load_words, Pair};
 use crate::states::{edited, stateless, FRESH, TOLD};
 use crate::tally::{same, same_words, Tally};
+use tailbow::raw::MORE;
 
 /// A buffer of any words: the image, and a rest of none to eight words.
 pub fn dirty(rng: &mut Rng) -> Vec<u32> {
@@ -28,7 +28,7 @@ pub fn every_way(rng: &mut Rng, tally: &mut Tally, name: &str, bytes: &[u8]) -> 
     let start = placed.len();
     placed.extend(bytes);
     let (answer_to_bytes, of_bytes) = load_bytes(tally, name, &buffer, &placed[start..]);
-    tally.result(if bytes.len() % 4 == 0 {
+    tally.result(if bytes.chunks_exact(4).remainder().is_empty() {
         same(name, answer_to_bytes, answer).and(same_words(name, &of_bytes, &whole))
     } else {
         same(name, answer_to_bytes, 9).and(same_words(name, &of_bytes, &buffer))

@@ -1,36 +1,109 @@
 //! How often each entry gave each answer, how many comparisons held, and what failed.
 
 use std::collections::BTreeMap;
+use std::fmt;
 
-use crate::entries::MORE;
+use tailbow::raw::MORE;
 
 /// Failures that are printed.
 const SHOWN: usize = 20;
 
-/// What each entry must have answered at least once.
-const ANSWERS: [(&str, &[u32]); 7] = [
-    ("write", &[0, 1, 2, 3, 4, 5, 6, 7, 8, 20, 21, 22, 23, 24, 25, 30, 31, 32, MORE]),
-    ("load_words", &[0, 1, 2, 3, 4, 5, 6, 7, 8, 10, 20, 21, 22, 23, 24, 25, 31]),
-    ("load_bytes", &[0, 1, 2, 3, 4, 5, 6, 7, 8, 9, 10, 20, 21, 22, 23, 24, 25, 31]),
-    ("fresh_ledger", &[0, 30, 31]),
-    // 0 is sent, 1 to 11 are drops.
-    ("judge", &[0, 1, 2, 3, 4, 5, 6, 7, 8, 9, 10, 11, 30, 31, 33, 34, 35, 38, 39]),
-    ("release", &[0, 30, 31, 36, 37, 39]),
-    // 1 is not-loaded, 2 no-frames, 3 shares.
-    ("tile", &[1, 2, 3, 31, 33, 39]),
+/// Calls that a run must make.
+const LEAST_CALLS: usize = 200_000;
+
+/// What an entry answered.
+#[derive(Clone, Copy, PartialEq, Eq, PartialOrd, Ord, Debug)]
+pub enum Answer {
+    Refused(u32),
+    Drop(u32),
+    /// What is neither, in document 01's word.
+    Told(&'static str),
+}
+
+impl Answer {
+    /// The answer of an entry that gives a number alone; 0 is `done`.
+    pub fn of_number(number: u32, done: &'static str) -> Answer {
+        match number {
+            0 => Answer::Told(done),
+            MORE => Answer::Told("more"),
+            number => Answer::Refused(number),
+        }
+    }
+}
+
+impl fmt::Display for Answer {
+    fn fmt(&self, text: &mut fmt::Formatter<'_>) -> fmt::Result {
+        match self {
+            Answer::Refused(number) => write!(text, "refused {number}"),
+            Answer::Drop(number) => write!(text, "drop {number}"),
+            Answer::Told(word) => write!(text, "{word}"),
+        }
+    }
+}
+
+/// An entry, and what it must have answered at least once: refusals, drops, and the rest.
+struct Due {
+    entry: &'static str,
+    refusals: &'static [u32],
+    drops: &'static [u32],
+    told: &'static [&'static str],
+}
+
+const WRITE: &[u32] = &[1, 2, 3, 4, 5, 6, 7, 8, 20, 21, 22, 23, 24, 25, 30, 31, 32];
+const WORDS: &[u32] = &[1, 2, 3, 4, 5, 6, 7, 8, 10, 20, 21, 22, 23, 24, 25, 31];
+const BYTES: &[u32] = &[1, 2, 3, 4, 5, 6, 7, 8, 9, 10, 20, 21, 22, 23, 24, 25, 31];
+const FRAME: &[u32] = &[30, 31, 33, 34, 35, 38, 39];
+const DROPS: &[u32] = &[1, 2, 3, 4, 5, 6, 7, 8, 9, 10, 11];
+const RELEASE: &[u32] = &[30, 31, 36, 37, 39];
+const LIST: &[u32] = &[50, 51, 52, 53, 54];
+
+/// Every entry, with every answer that document 01 lets it give.
+const ENTRIES: [Due; 11] = [
+    Due { entry: "fresh_load", refusals: &[], drops: &[], told: &["done"] },
+    // An answer that a write repeats is not counted as given again.
+    Due { entry: "write", refusals: WRITE, drops: &[], told: &["loaded", "more", "repeated"] },
+    Due { entry: "load_words", refusals: WORDS, drops: &[], told: &["loaded"] },
+    Due { entry: "load_bytes", refusals: BYTES, drops: &[], told: &["loaded"] },
+    Due { entry: "fresh_ledger", refusals: &[30, 31], drops: &[], told: &["done"] },
+    Due { entry: "judge", refusals: FRAME, drops: DROPS, told: &["sent"] },
+    Due { entry: "judge_lent", refusals: FRAME, drops: DROPS, told: &["sent"] },
+    Due { entry: "release", refusals: RELEASE, drops: &[], told: &["done"] },
+    Due { entry: "release_lent", refusals: RELEASE, drops: &[], told: &["done"] },
+    Due {
+        entry: "tile",
+        refusals: &[31, 33, 39],
+        drops: &[],
+        told: &["not-loaded", "no-frames", "shares"],
+    },
+    Due { entry: "record_at", refusals: LIST, drops: &[], told: &["frame", "release", "end"] },
 ];
+
+impl Due {
+    fn answers(&self) -> Vec<Answer> {
+        let refusals = self.refusals.iter().map(|&number| Answer::Refused(number));
+        let drops = self.drops.iter().map(|&number| Answer::Drop(number));
+        let told = self.told.iter().map(|&word| Answer::Told(word));
+        refusals.chain(drops).chain(told).collect()
+    }
+}
+
+/// Every refusal and drop of document 01: each must have been given by some entry.
+fn numbers() -> Vec<Answer> {
+    let refusals = (1..=10).chain(20..=25).chain(30..=39).chain(50..=54).map(Answer::Refused);
+    refusals.chain((1..=11).map(Answer::Drop)).collect()
+}
 
 #[derive(Default)]
 pub struct Tally {
-    answers: BTreeMap<(&'static str, u32), usize>,
+    answers: BTreeMap<(Answer, &'static str), usize>,
     passed: usize,
     failures: Vec<String>,
 }
 
 impl Tally {
     /// One call of an entry, with how it compared.
-    pub fn call(&mut self, entry: &'static str, answer: u32, compared: Result<(), String>) {
-        *self.answers.entry((entry, answer)).or_default() += 1;
+    pub fn call(&mut self, entry: &'static str, answer: Answer, compared: Result<(), String>) {
+        *self.answers.entry((answer, entry)).or_default() += 1;
         self.result(compared.map_err(|failure| format!("{entry}: {failure}")));
     }
 
@@ -41,47 +114,64 @@ impl Tally {
         }
     }
 
+    pub fn calls(&self) -> usize {
+        self.answers.values().sum()
+    }
+
+    pub fn failed(&self) -> usize {
+        self.failures.len()
+    }
+
     /// Prints the answers, what is missing and what failed; the last line counts. True where all is well.
     pub fn finish(mut self) -> bool {
-        for (entry, numbers) in ANSWERS {
-            self.print(entry);
-            for &number in numbers {
-                if !self.answers.contains_key(&(entry, number)) {
-                    self.failures.push(format!("{entry} never answered {}", shown(number)));
+        self.print();
+        for due in &ENTRIES {
+            for answer in due.answers() {
+                if !self.answers.contains_key(&(answer, due.entry)) {
+                    self.failures.push(format!("{} never answered {answer}", due.entry));
                 }
             }
+        }
+        for number in numbers() {
+            if !self.answers.keys().any(|(answer, _)| *answer == number) {
+                self.failures.push(format!("no entry answered {number}"));
+            }
+        }
+        if self.calls() < LEAST_CALLS {
+            self.failures.push(format!("{} calls, fewer than {LEAST_CALLS}", self.calls()));
         }
         for failure in self.failures.iter().take(SHOWN) {
             println!("FAILED {failure}");
         }
+        println!("{} calls", self.calls());
         println!("{} passed, {} failed", self.passed, self.failures.len());
         self.failures.is_empty()
     }
 
-    fn print(&self, entry: &str) {
-        let mut parts = Vec::new();
-        let mut calls = 0;
-        for ((_, number), times) in self.answers.iter().filter(|((name, _), _)| *name == entry) {
-            parts.push(format!("{} x {times}", shown(*number)));
-            calls += times;
+    /// A line an answer: how often it was given, and by which entries. Those that are due stand there with 0, too.
+    fn print(&self) {
+        let mut lines: Vec<Answer> = self.answers.keys().map(|(answer, _)| *answer).collect();
+        lines.extend(ENTRIES.iter().flat_map(Due::answers));
+        lines.extend(numbers());
+        lines.sort();
+        lines.dedup();
+        for answer in lines {
+            let mut total = 0;
+            let mut parts = Vec::new();
+            for due in &ENTRIES {
+                let times = self.answers.get(&(answer, due.entry)).copied().unwrap_or(0);
+                if times > 0 || due.answers().contains(&answer) {
+                    parts.push(format!("{} {times}", due.entry));
+                }
+                total += times;
+            }
+            println!("{:<12} {total:>8}: {}", answer.to_string(), parts.join(", "));
         }
-        println!("{entry}, {calls} calls: {}", parts.join(", "));
     }
-}
-
-fn shown(number: u32) -> String {
-    if number == MORE {
-        return "more".to_string();
-    }
-    number.to_string()
 }
 
 /// Ok where they are equal.
-pub fn same<T: PartialEq + std::fmt::Debug>(
-    what: &str,
-    ours: T,
-    expected: T,
-) -> Result<(), String> {
+pub fn same<T: PartialEq + fmt::Debug>(what: &str, ours: T, expected: T) -> Result<(), String> {
     if ours == expected {
         return Ok(());
     }

@@ -6,11 +6,11 @@ use reference::image::of_lists;
 use reference::stream::{Lists, DEVICE_ID};
 use reference::tables::{IDS_OF_TABLE_2, ROWS};
 
-use crate::entries::FlatLoad;
 use crate::pair::Pair;
 use crate::states::{is_state, TOLD};
 use crate::streams::{dirty, edit};
 use crate::tally::Tally;
+use tailbow::raw::FlatLoad;
 
 const WRITES: usize = 60;
 

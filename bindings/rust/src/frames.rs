@@ -1,0 +1,159 @@
+//! Ledgers, and what is asked of them: frames, releases and tiles.
+
+use crate::numbers::{done, drop_cause, refusal, DropCause, Refusal};
+use crate::raw;
+
+/// What a night has come to under one image: units left, meters, the last time, and each port's counts.
+#[derive(Clone, Copy, PartialEq, Eq, Debug)]
+pub struct Ledger {
+    flat: raw::FlatLedger,
+}
+
+/// What the switch does with a frame.
+#[derive(Clone, Copy, PartialEq, Eq, Hash, Debug)]
+pub enum Verdict {
+    /// It drops the frame.
+    Drop(DropCause),
+    /// It sends the frame.
+    Sent(Sent),
+}
+
+/// Where a frame is sent, and how.
+#[derive(Clone, Copy, PartialEq, Eq, Hash, Debug)]
+pub struct Sent {
+    /// The ports it goes out of, as a mask: port 0 is the lowest bit.
+    pub ports: u8,
+    /// Its VLAN.
+    pub vlan: u16,
+    /// Its new priority.
+    pub priority: u8,
+    /// Those of the ports that send a tag, as a mask.
+    pub tags: u8,
+    /// Its queue at each port, 0 where it isn't sent.
+    pub queues: [u8; 5],
+}
+
+/// What the screen shows of a port. Nothing is not zero: a share stands only where frames came.
+#[derive(Clone, Copy, PartialEq, Debug)]
+pub enum Tile {
+    /// There is no valid configuration. Nothing was judged.
+    NotLoaded,
+    /// The configuration is loaded, and no frame came in on this port.
+    NoFrames,
+    /// Frames came in.
+    Shares {
+        /// Dropped frames over frames: one division.
+        frames: f64,
+        /// Dropped octets over octets: one division.
+        octets: f64,
+    },
+}
+
+/// What a port has seen.
+#[derive(Clone, Copy, PartialEq, Eq, Hash, Debug)]
+pub struct Counts {
+    /// Frames judged.
+    pub frames: u64,
+    /// Those of them that were dropped.
+    pub drops: u64,
+    /// The sum of L over the frames.
+    pub octets: u64,
+    /// The sum of L over the drops.
+    pub dropped_octets: u64,
+}
+
+impl Ledger {
+    /// A fresh ledger of an image: partitions at PART_SPC, meters full, times and counts 0.
+    ///
+    /// Refusals, in this order: 31 for a short buffer, 30 for an image that isn't loaded.
+    pub fn fresh(image: &[u32]) -> Result<Ledger, Refusal> {
+        let outcome = raw::fresh_ledger(image);
+        done(outcome.number)?;
+        Ok(Ledger { flat: outcome.ledger })
+    }
+
+    /// The verdict on a frame that came in at a port at a time in µs: its bytes without the checksum.
+    ///
+    /// Refusals change nothing. In this order: 31, 30, 39 for a ledger that is out of range under this image, 33 for a port above 4,
+    /// 34 for a time before the last one or above 2^48 - 1, 35 for more than 4,096 bytes, 38 where the port's frames are at 2^32 - 1.
+    /// Every verdict sets the last time and the port's counts.
+    pub fn judge(
+        &mut self,
+        image: &[u32],
+        port: usize,
+        time: u64,
+        frame: &[u8],
+    ) -> Result<Verdict, Refusal> {
+        let verdict = raw::judge_lent(image, &mut self.flat, port, time, frame);
+        match verdict.kind {
+            0 => Err(refusal(verdict.number)),
+            1 => Ok(Verdict::Drop(drop_cause(verdict.number))),
+            _ => Ok(Verdict::Sent(sent(&verdict))),
+        }
+    }
+
+    /// One unit of a partition comes back.
+    ///
+    /// Refusals change nothing. In this order: 31, 30, 39, 36 for a partition above 7, 37 where nothing of it is out.
+    pub fn release(&mut self, image: &[u32], partition: usize) -> Result<(), Refusal> {
+        done(raw::release_lent(image, &mut self.flat, partition))
+    }
+
+    /// What the screen shows of a port.
+    ///
+    /// In this order: refusal 31, refusal 33, [`Tile::NotLoaded`] where a frame would be refused with 30, refusal 39, and then the
+    /// tile of the port's counts.
+    pub fn tile(&self, image: &[u32], port: usize) -> Result<Tile, Refusal> {
+        let tile = raw::tile(image, self.flat, port);
+        match tile.kind {
+            0 => Err(refusal(tile.number)),
+            1 => Ok(Tile::NotLoaded),
+            2 => Ok(Tile::NoFrames),
+            _ => Ok(Tile::Shares {
+                frames: f64::from_bits(tile.share),
+                octets: f64::from_bits(tile.octets),
+            }),
+        }
+    }
+
+    /// A port's counts; none for a port above 4.
+    pub fn counts(&self, port: usize) -> Option<Counts> {
+        Some(Counts {
+            frames: *self.flat.frames.get(port)?,
+            drops: *self.flat.drops.get(port)?,
+            octets: *self.flat.octets.get(port)?,
+            dropped_octets: *self.flat.dropped.get(port)?,
+        })
+    }
+
+    /// Units left of a partition; none for a partition above 7.
+    pub fn units(&self, partition: usize) -> Option<u64> {
+        self.flat.units.get(partition).copied()
+    }
+
+    /// The last time, in µs.
+    pub fn last_time(&self) -> u64 {
+        self.flat.last
+    }
+
+    /// The ledger's numbers, to keep them elsewhere.
+    pub fn numbers(&self) -> &raw::FlatLedger {
+        &self.flat
+    }
+
+    /// The ledger of these numbers. Any are taken; a call refuses with 39 those that are out of range under its image.
+    pub fn of_numbers(numbers: raw::FlatLedger) -> Ledger {
+        Ledger { flat: numbers }
+    }
+}
+
+/// The values of a sending. Masks have 5 bits, a VLAN 12, priorities and queues 3, so that none is cut.
+fn sent(verdict: &raw::FlatVerdict) -> Sent {
+    Sent {
+        ports: verdict.ports as u8,
+        vlan: verdict.vlan as u16,
+        priority: verdict.priority as u8,
+        tags: verdict.tags as u8,
+        queues: verdict.queues.map(|queue| queue as u8),
+    }
+}
