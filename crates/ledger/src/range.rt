@@ -44,9 +44,16 @@ fn credit_over(image: &[u32], credit: &[u64]) -> bool
     requires { ⌜ 45 ≤ length (now credit) ⌝ }
     ensures { λ r. ⌜ r ≡ creditOver (imageIn (now (image .entry))) (now (credit .entry)) ⌝ }
 {
+    let n = image::counts::count(image, 1);
     let mut k: usize = 0;
+    while k < n {
+        if image::policing::smax(image, k) * 8000000 < credit[k] {
+            return true;
+        }
+        k += 1;
+    }
     while k < 45 {
-        if full(image, k) < credit[k] {
+        if 0 < credit[k] {
             return true;
         }
         k += 1;
