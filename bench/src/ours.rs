@@ -9,12 +9,6 @@ mod linked {
     use crate::flat::{FlatLedger, FlatLoad, FlatOutcome, FlatTile, FlatVerdict};
 
     #[repr(C)]
-    pub struct FlatWrote {
-        pub answer: u32,
-        pub load: FlatLoad,
-    }
-
-    #[repr(C)]
     #[allow(dead_code)]
     pub struct FlatJudged {
         pub verdict: FlatVerdict,
@@ -23,13 +17,13 @@ mod linked {
 
     #[allow(dead_code)]
     extern "C" {
-        pub fn tailbow_write(
+        pub fn tailbow_write_lent(
             image: *mut u32,
             image_words: usize,
-            load: FlatLoad,
+            load: *mut FlatLoad,
             words: *const u32,
             count: usize,
-        ) -> FlatWrote;
+        ) -> u32;
         pub fn tailbow_load_words(
             image: *mut u32,
             image_words: usize,
@@ -86,12 +80,10 @@ fn load_bytes(image: &mut [u32], bytes: &[u8]) -> u32 {
     unsafe { linked::tailbow_load_bytes(lent, length, bytes.as_ptr(), bytes.len()) }
 }
 
-/// The state goes in and comes back by value.
+/// The state is lent, as the peer's is.
 fn write(image: &mut [u32], load: &mut FlatLoad, words: &[u32]) -> u32 {
     let (lent, length) = (image.as_mut_ptr(), image.len());
-    let wrote = unsafe { linked::tailbow_write(lent, length, *load, words.as_ptr(), words.len()) };
-    *load = wrote.load;
-    wrote.answer
+    unsafe { linked::tailbow_write_lent(lent, length, load, words.as_ptr(), words.len()) }
 }
 
 fn fresh_ledger(image: &[u32]) -> FlatOutcome {

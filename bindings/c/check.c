@@ -68,6 +68,7 @@ static void loads(void)
     size_t count = bytes / 4, at;
     struct tailbow_load load = tailbow_fresh_load();
     struct tailbow_wrote wrote = {TAILBOW_MORE, load};
+    uint32_t answer = TAILBOW_MORE;
     image[TAILBOW_IMAGE_WORDS] = 77;
     for (at = 0; at < count; at += TAILBOW_WRITE_WORDS) {
         size_t left = count - at;
@@ -78,6 +79,12 @@ static void loads(void)
     HOLDS(wrote.load.phase == TAILBOW_PHASE_TOLD && wrote.load.told == TAILBOW_LOADED);
     memcpy(written, image, sizeof written);
     HOLDS(tailbow_write(image, TAILBOW_IMAGE_WORDS, wrote.load, words, 1).answer == TAILBOW_LOADED);
+    HOLDS(memcmp(written, image, sizeof written) == 0);
+    for (at = 0; at < count; at++) {
+        HOLDS(answer == TAILBOW_MORE);
+        answer = tailbow_write_lent(image, TAILBOW_IMAGE_WORDS, &load, words + at, 1);
+    }
+    HOLDS(answer == TAILBOW_LOADED && load.phase == TAILBOW_PHASE_TOLD && load.told == TAILBOW_LOADED);
     HOLDS(memcmp(written, image, sizeof written) == 0);
     HOLDS(tailbow_load_words(image, TAILBOW_IMAGE_WORDS, words, count - 1) == TAILBOW_REFUSED_WORDS_END);
     HOLDS(image_is(0));

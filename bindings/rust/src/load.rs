@@ -46,9 +46,7 @@ impl Load {
     /// words due than the block's table has room for, 32 for 0 words or more than 64. Once an answer has been told it is repeated, and
     /// nothing is written. 1 to 8 and 20 to 25 leave the image zero; words behind an answer are ignored.
     pub fn write(&mut self, image: &mut [u32], words: &[u32]) -> Answer {
-        let wrote = raw::write(image, self.flat, words);
-        self.flat = wrote.load;
-        Answer::of(wrote.answer)
+        Answer::of(raw::write_lent(image, &mut self.flat, words))
     }
 
     /// The load's answer, once it has been told: loaded, or the first broken rule.

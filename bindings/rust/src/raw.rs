@@ -152,6 +152,13 @@ mod linked {
             words: *const u32,
             count: usize,
         ) -> FlatWrote;
+        pub fn tailbow_write_lent(
+            image: *mut u32,
+            image_words: usize,
+            load: *mut FlatLoad,
+            words: *const u32,
+            count: usize,
+        ) -> u32;
         pub fn tailbow_load_words(
             image: *mut u32,
             image_words: usize,
@@ -216,6 +223,12 @@ pub fn fresh_load() -> FlatLoad {
 pub fn write(image: &mut [u32], load: FlatLoad, words: &[u32]) -> FlatWrote {
     let (lent, length) = (image.as_mut_ptr(), image.len());
     unsafe { linked::tailbow_write(lent, length, load, words.as_ptr(), words.len()) }
+}
+
+/// The same on a load state that is lent.
+pub fn write_lent(image: &mut [u32], load: &mut FlatLoad, words: &[u32]) -> u32 {
+    let (lent, length) = (image.as_mut_ptr(), image.len());
+    unsafe { linked::tailbow_write_lent(lent, length, load, words.as_ptr(), words.len()) }
 }
 
 /// A whole stream of words.

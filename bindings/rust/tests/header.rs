@@ -101,7 +101,7 @@ fn both_declare_the_same_functions() {
     let declared =
         &ours[ours.find("extern \"C\"").unwrap()..ours.find("// Each call below").unwrap()];
     let theirs = functions(&header());
-    assert_eq!(theirs.len(), 11, "{theirs:?}");
+    assert_eq!(theirs.len(), 12, "{theirs:?}");
     assert_eq!(theirs, functions(declared));
 }
 

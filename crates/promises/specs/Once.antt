@@ -32,6 +32,7 @@ use Rattle.tailbow_c.specs.declared.FlatWrote.{FlatWrote}
 use Rattle.tailbow_c.specs.declared.frames.FlatVerdict.{FlatVerdict}
 use Rattle.tailbow_c.specs.Calls.{WritesFlat, EndsFlat}
 use Rattle.tailbow_c.specs.Lent.{JudgesLent, ReleasesLent, one-judged, one-released}
+use Rattle.tailbow_c.specs.Packed.{WritesLent, one-write}
 
 -- `write`: the answer, the load state and the whole buffer
 pub write-once : (load : Load) (buffer words : List ℕ) (r s : Wrote) (a b : List ℕ) → Writes load buffer words r a → Writes load buffer words s b → (r ≡ s) × (a ≡ b)
@@ -86,6 +87,11 @@ flat-write-once f buffer words r s a b p q = (
       ∙ ap (λ (l : FlatLoad). record { answer = s .answer; load = l }) (p .state ∙ sym (q .state)),
   p .kept ∙ sym (q .kept),
 )
+
+-- `tailbow_write_lent`: the answer, the six numbers of the load state and the whole buffer
+pub lent-write-once : (numbers buffer words : List ℕ) (r s : ℕ) (a b k m : List ℕ) → WritesLent numbers buffer words r a k → WritesLent numbers buffer words s b m
+    → (r ≡ s) × (a ≡ b) × (k ≡ m)
+lent-write-once = one-write
 
 -- `tailbow_load_words` and `tailbow_load_bytes`
 pub flat-load-once : (w : Whole) (r s : ℕ) (a b : List ℕ) → EndsFlat w r a → EndsFlat w s b → (r ≡ s) × (a ≡ b)

@@ -5,3 +5,4 @@ pub mod Round
 pub mod Frames
 pub mod Lent
 pub mod Lists
+pub mod Packed

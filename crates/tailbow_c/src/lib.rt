@@ -2,6 +2,7 @@
 pub mod frames;
 pub mod lent;
 pub mod lists;
+pub mod writes;
 
 use image::tables::Table;
 use stream::Answer;
@@ -175,9 +176,8 @@ pub extern "C" fn tailbow_fresh_load() -> FlatLoad
     flat(0, loader::fresh())
 }
 
-// Words for a load. The buffer's first 11,456 words are the image.
-#[no_mangle]
-pub extern "C" fn tailbow_write(image: &mut [u32], load: FlatLoad, words: &[u32]) -> FlatWrote
+// Words for a load, on its numbers. Its one caller is the entry on a lent load state, so that the two become one.
+pub fn write_flat(image: &mut [u32], load: FlatLoad, words: &[u32]) -> FlatWrote
     ensures { λ r. ⌜ WritesFlat load (now (image .entry)) (now (words .entry)) r (now (image .exit)) ⌝ }
 {
     if image::counts::too_short(image) {
@@ -192,6 +192,19 @@ pub extern "C" fn tailbow_write(image: &mut [u32], load: FlatLoad, words: &[u32]
     FlatWrote {
         answer: number_of(answer),
         load: flat(load.told, next),
+    }
+}
+
+// Words for a load. The buffer's first 11,456 words are the image.
+#[no_mangle]
+pub extern "C" fn tailbow_write(image: &mut [u32], load: FlatLoad, words: &[u32]) -> FlatWrote
+    ensures { λ r. ⌜ WritesFlat load (now (image .entry)) (now (words .entry)) r (now (image .exit)) ⌝ }
+{
+    let mut numbers = writes::packed(load);
+    let answer = writes::tailbow_write_lent(image, &mut numbers, words);
+    FlatWrote {
+        answer,
+        load: writes::unpacked(&numbers),
     }
 }
 

@@ -43,6 +43,14 @@ fn whole(
     (answer, ours)
 }
 
+/// A lent load state between two numbers that nobody may write.
+#[repr(C)]
+struct Guarded {
+    before: u64,
+    load: FlatLoad,
+    behind: u64,
+}
+
 /// A load under way in both.
 #[derive(Clone)]
 pub struct Pair {
@@ -81,7 +89,9 @@ impl Pair {
         let (flat, buffer) = (self.flat, self.ours.clone());
         let wrote = entries::write(&mut self.ours, flat, words);
         self.flat = wrote.load;
-        let mut compared = self.compare(flat, &buffer, wrote.answer, words);
+        let mut compared = self
+            .lent(flat, &buffer, wrote.answer, words)
+            .and_then(|()| self.compare(flat, &buffer, wrote.answer, words));
         if let Err(failure) = &mut compared {
             *failure = format!("{name}: a write of {words:08X?} at {flat:?}: {failure}");
         }
@@ -92,6 +102,25 @@ impl Pair {
         };
         tally.call("write", answer, compared);
         wrote.answer
+    }
+
+    /// The same write to a lent state: the answer, the state and the buffer of the one by value, and nothing around the state written.
+    fn lent(
+        &self,
+        flat: FlatLoad,
+        buffer: &[u32],
+        answer: u32,
+        words: &[u32],
+    ) -> Result<(), String> {
+        const GUARD: u64 = 0x5A5A_A5A5_5A5A_A5A5;
+        let mut guarded = Guarded { before: GUARD, load: flat, behind: GUARD };
+        let mut lent = buffer.to_vec();
+        let told = entries::write_lent(&mut lent, &mut guarded.load, words);
+        same("answer to a lent state", told, answer)?;
+        same("lent numbers", guarded.load, self.flat)?;
+        same("what stands before a lent state", guarded.before, GUARD)?;
+        same("what stands behind a lent state", guarded.behind, GUARD)?;
+        same_words("buffer of a lent state", &lent, &self.ours)
     }
 
     fn compare(

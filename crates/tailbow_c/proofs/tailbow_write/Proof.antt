@@ -1,58 +1,30 @@
--- `tailbow_c::tailbow_write`: 31, 30 for numbers that no load state has, then the write.
-use mathlib.Core.Path.{_≡_, refl, _∙_, ap}
-use mathlib.Core.List.{List}
+-- `tailbow_c::tailbow_write`: the write on a lent state, the state packed before and unpacked after.
+use mathlib.Core.Path.{_≡_, sym, _∙_, ap}
 use borrow.Author.Needs.{needs}
 use denote.Ref.{now}
-use Rattle.stream.specs.Machine.{Written, wrote}
-use Rattle.stream.specs.declared.Load.{Load}
-use Rattle.tailbow_c.specs.Flat.{flat}
-use Rattle.tailbow_c.specs.Calls.{numberOf}
-use Rattle.tailbow_c.proofs.Laws.{writes-as, wrote-31, wrote-30, wrote-on}
+use Rattle.tailbow_c.specs.Calls.{wroteFlat}
+use Rattle.tailbow_c.specs.declared.FlatLoad.{FlatLoad}
 use Rattle.tailbow_c.proofs.tailbow_write.Statement.{statement}
 use Rattle.tailbow_c.proofs.tailbow_write.Tie as tie
 
 returns : tie.Need-returns
 returns c =
-    let a = c .before .before .before .before .before .args in
-    writes-as (a .load) (now (a .image)) (now (a .words)) _ _ _
-    (wrote-31 (a .load) (now (a .image)) (now (a .words)) _ (c .before .too-short .ensures) (c .if1 .taken)) refl refl refl
-
-returns-2 : tie.Need-returns-2
-returns-2 c =
-    let a = c .before .before .before .before .before .before .before .args in
-    writes-as (a .load) (now (a .image)) (now (a .words)) _ _ _
-    (wrote-30 (a .load) (now (a .image)) (now (a .words)) _ _ (c .before .before .before .too-short .ensures) (c .before .is-load .ensures)
-    (c .before .before .if1 .left)
-    (c .if2 .taken)) refl refl refl
-
-returns-3 : tie.Need-returns-3
-returns-3 c =
-    let w = c .before .before .before .before .before in
-    let t = w .before .before .before .before .before .before in
-    let a = t .before .before .before .before .args in
-    let s : Load → Written = λ l. wrote l (now (a .image)) (now (a .words)) in
-    let e = w .before .decode .ensures in
-    writes-as (a .load) (now (a .image)) (now (a .words)) _ _ _
-    (wrote-on (a .load) (now (a .image)) (now (a .words)) _ _ (t .too-short .ensures) (w .before .before .before .before .is-load .ensures)
-    (w .before .before .before .before .before .if1 .left)
-    (w .before .before .before .if2 .left))
-    (c .before .number-of .ensures ∙ ap numberOf (w .write .ensures .answer) ∙ ap (λ (l : Load). numberOf (s l .answer)) e)
-    (c .flat .ensures ∙ ap (λ (l : Load). flat (a .load .told) l) (w .write .ensures .state) ∙ ap (λ (l : Load). flat (a .load .told) (s l .load)) e)
-    (w .write .ensures .kept ∙ ap (λ (l : Load). s l .buffer) e)
+    let s = c .before .before .before .before .before .before .before .before .before .before in
+    let w = c .before .before .before .before .tailbow-write-lent .ensures in
+    let e = c .before .before .before .before .before .before .before .packed .ensures .0 in
+    record {
+      answer = w .answer ∙ ap (λ (l : FlatLoad). wroteFlat l (now (s .args .image)) (now (s .args .words)) .answer) e;
+      state = c .unpacked .ensures ∙ w .state ∙ ap (λ (l : FlatLoad). wroteFlat l (now (s .args .image)) (now (s .args .words)) .load) e;
+      kept = w .image ∙ ap (λ (l : FlatLoad). wroteFlat l (now (s .args .image)) (now (s .args .words)) .buffer) e;
+    }
 
 pub tailbow-write-spec : {M : Type 1} → statement M
 tailbow-write-spec =
     tie.close
     (tie.spec
     (λ c κs. search needs)
-    (λ c. search needs)
-    returns
     (λ c κs. search needs)
     (λ c. search needs)
-    returns-2
     (λ c κs. search needs)
-    (λ c κs. search needs)
-    (λ c κs. search needs)
-    (λ c κs. search needs)
-    (λ c. search needs)
-    returns-3)
+    (λ c. c .before .before .before .before .tailbow-write-lent .kept .0)
+    returns)
