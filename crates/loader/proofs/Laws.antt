@@ -5,10 +5,10 @@ use mathlib.Core.Bool.{Bool, true, false, cond, not, true≢false}
 use mathlib.Core.List.{List, [], _∷_, _++_}
 use mathlib.Core.List.{append-assoc, append-nil}
 use Prim.Native.Nat.{ℕ, zero, suc, _+_, _-_, _*_, _/_, _%_, _<_, _≤_}
-use native.Mathlib.Nat.{mul-comm, mul-le-mul-right, add-zero, not-suc-le-zero, le-of-eq, zero-lt-suc}
+use native.Mathlib.Nat.{mul-comm, add-zero, not-suc-le-zero, le-of-eq, zero-lt-suc}
 use lib.Dec.{ltb, leb, eqb, lit<}
 use native.Mathlib.Omega.{arith}
-use lib.ListN.{length, getD, set, take, drop, replicate, length-set, length-drop, take-append-drop}
+use lib.ListN.{length, getD, set, take, drop, replicate, length-drop, take-append-drop}
 use lib.Seq.{sets, drop-set-lt, take-all, drop-drop, take-suc-set}
 use borrow.Author.Tests.{ltb-true, ltb-false, leb-true, lt-ltb, le-ltb, eq-eqb, ne-eqb}
 use Rattle.laws.specs.Scan.{every, every-at}
@@ -16,14 +16,14 @@ use Rattle.laws.specs.Chain.{hit, pass, hit-eq, pass-eq, hit-ne, pass-ne}
 use Rattle.crc.specs.Crc.{wordIn, wordsIn, start, finished, checksum}
 use Rattle.image.specs.Rows.{sizeOf, mostOf, baseOf}
 use Rattle.image.specs.Layout.{imageWords, entryWords, imageIn, markAt}
-use Rattle.image.specs.Loaded.{tooShort, overLimit}
+use Rattle.image.specs.Loaded.{tooShort}
 use Rattle.image.specs.Sound.{Within, Bounded, bounded}
 use Rattle.image.specs.Tables.{indexOf, kindOf, tables}
 use Rattle.image.specs.declared.tables.Table.{Table}
 use Rattle.image.specs.declared.tables.Table.the-variants.{AddressLookup}
 use Rattle.rules.specs.Rules.{ruled}
 use Rattle.stream.specs.Header.{idOf, lengthOf, wrong}
-use Rattle.stream.specs.Machine.{Machine, at, told, idle, filling, cleared, refuse, hadIn, placeIn, finish, endedBy, begunBy, summed, filled, stepIn, step, run, beyond, fresh, begun, overdueIn, damaged, outside, untouched, opened, Written, written, wrote}
+use Rattle.stream.specs.Machine.{Machine, at, told, idle, filling, cleared, refuse, hadIn, placeIn, finish, endedBy, begunBy, summed, filled, stepIn, step, run, beyond, fresh, begun, damaged, outside, untouched, opened, Written, written, wrote}
 use Rattle.stream.specs.Paper.{Whole, asFound, loadedWords, wordsOf, loadedBytes}
 use Rattle.stream.specs.Bytes.{wordAt, words-from, words-none, words-split}
 use Rattle.stream.specs.Ends.{settledIn, settled, whole}
@@ -37,15 +37,11 @@ use Rattle.loader.specs.declared.Header.{Header}
 use Rattle.loader.specs.declared.Header.the-variants.{Wrong, Right}
 use Rattle.stream.specs.Runs.{index-lt, run-data, run-append}
 use Rattle.stream.specs.Bridge.{size-positive, room-inside}
-use Rattle.stream.specs.Fine.{Fine, Roomy, store-fine, mark-kept, raised, undamaged-fine}
+use Rattle.stream.specs.Fine.{Fine, Roomy, store-fine, mark-kept, raised}
 
 -- what is left is also an equal machine's
 pub so : {m n : Machine} {r : Load} {b : List ℕ} → m ≡ n → Leaves m r b → Leaves n r b
 so e l = record { state = l .state ∙ ap (λ (x : Machine). x .load) e; kept = l .kept ∙ ap (λ (x : Machine). x .buffer) e }
-
--- and with an equal load state
-pub equal-load : {m : Machine} {r l : Load} {b : List ℕ} → r ≡ l → Leaves m l b → Leaves m r b
-equal-load e l = record { state = e ∙ l .state; kept = l .kept }
 
 -- a store into the image does not show once it is cleared
 pub cleared-set : (buffer : List ℕ) (i d : ℕ) → i < imageWords → cleared (set buffer i d) ≡ cleared buffer
@@ -230,14 +226,6 @@ unfolding run
 one-word m [] h = absurd (not-suc-le-zero h)
 one-word m (w ∷ words) h = refl
 
--- the only word of a write that stands inside a block
-pub only-word : (l : Load) (buffer words : List ℕ) → l .phase ≡ Data → length words ≡ 1
-    → filled (l .table) (l .placed) (l .due) (l .stream) (l .block) buffer (getD words 0 0) ≡ run (at l buffer) words
-unfolding run
-only-word l buffer [] e h = absurd (omega arith)
-only-word l buffer (w ∷ []) e h = at-phase l buffer w Data e
-only-word l buffer (w ∷ v ∷ words) e h = absurd (omega arith)
-
 -- ---- runs in parts
 pub leaves-at : {m : Machine} {r : Load} {b : List ℕ} → Leaves m r b → at r b ≡ m
 leaves-at {m} {r} {b} l = ap (λ (x : Load). at x b) (l .state) ∙ ap (λ (x : List ℕ). at (m .load) x) (l .kept)
@@ -313,38 +301,6 @@ opened-begun l buffer b e h = ap (λ (x : List ℕ). at l x) (hit b _ _ _ e h)
 
 pub opened-fresh : (l : Load) (buffer : List ℕ) (b : Bool) → b ≡ begun (l .phase) → b ≡ false → at l (cleared buffer) ≡ opened l buffer
 opened-fresh l buffer b e h = ap (λ (x : List ℕ). at l x) (pass b _ _ _ _ e h refl)
-
--- the same for a load inside a block, by 30's two tests
-module _ (l : Load) (buffer ws : List ℕ) (room : imageWords ≤ length buffer) (inside : l .phase ≡ Data) (over late : Bool) (eo : over ≡ overLimit (imageIn buffer))
-    (el : late ≡ beyond (imageIn buffer) (indexOf (l .table)) (l .placed) (l .due)) where
-  not-short : false ≡ tooShort buffer
-  not-short = sym (le-ltb (length buffer) imageWords room)
-
-  bad : cond over true late ≡ damaged l (imageIn buffer)
-  bad =
-      ap (λ (t : Bool). cond t true late) eo
-      ∙ ap (λ (t : Bool). cond (overLimit (imageIn buffer)) true t) el
-      ∙ sym (ap (λ (p : Phase). cond (begun p) (cond (overLimit (imageIn buffer)) true (overdueIn p l (imageIn buffer))) false) inside)
-
-  good : over ≡ false → late ≡ false → cond over true late ≡ false
-  good o t = ap (λ (x : Bool). cond x true late) o ∙ t
-
-  pub block-30 : cond over true late ≡ true → untouched 30 l buffer ≡ wrote l buffer ws
-  block-30 h = wrote-30 l buffer ws false (cond over true late) (outside (length ws)) not-short bad refl refl h
-
-  pub block-32 : (out : Bool) → out ≡ outside (length ws) → over ≡ false → late ≡ false → out ≡ true → untouched 32 l buffer ≡ wrote l buffer ws
-  block-32 out e o t h = wrote-32 l buffer ws false (cond over true late) out not-short bad e refl (good o t) h
-
-  pub block-run : (out : Bool) → out ≡ outside (length ws) → over ≡ false → late ≡ false → out ≡ false → written (run (at l buffer) ws) ≡ wrote l buffer ws
-  block-run out e o t h =
-      ap (λ (m : Machine). written (run m ws)) (opened-begun l buffer true (sym (ap begun inside)) refl)
-      ∙ wrote-run l buffer ws false (cond over true late) out not-short bad e refl (good o t) h
-
-  pub block-fine : over ≡ false → late ≡ false → Fine (at l buffer)
-  block-fine o t = undamaged-fine l buffer room (ap begun inside) (sym bad ∙ good o t)
-
-  pub block-roomy : over ≡ false → late ≡ false → Roomy Data l buffer
-  block-roomy o t = subst (λ (p : Phase). Roomy p l buffer) inside (block-fine o t .roomy)
 
 -- 31's test failed: the buffer has room
 pub has-room : (buffer : List ℕ) (short : Bool) → short ≡ tooShort buffer → short ≡ false → imageWords ≤ length buffer

@@ -26,6 +26,7 @@ ghost use Rattle.stream.specs.Header.{idOf};
 ghost use Rattle.stream.specs.Fine.{Roomy, Fine};
 ghost use Rattle.stream.specs.declared.Phase.the-variants.{Data};
 ghost use Rattle.loader.specs.Leaves.{Leaves, headerOf, RoomOf, Takes, Writes, Ends};
+ghost use Rattle.loader.specs.Data.{dataPlace};
 
 // What a block's header comes to: the number 3 to 6 that it is refused with, or its table.
 pub enum Header {
@@ -332,7 +333,7 @@ fn step(image: &mut [u32], load: Load, w: u32) -> Load
 }
 
 // Words into the image, one behind the other.
-fn copy(image: &mut [u32], place: usize, words: &[u32])
+pub fn copy(image: &mut [u32], place: usize, words: &[u32])
     requires { ⌜ place + length (now words) ≤ length (now image) ⌝ }
     ensures { λ r. ⌜ now (image .exit) ≡ sets (now (image .entry)) place (now (words .entry)) ⌝ }
 {
@@ -450,32 +451,6 @@ fn run(image: &mut [u32], load: Load, words: &[u32]) -> Load
         i += took.count;
     }
     state
-}
-
-// The same load state, number by number: what a call left in memory and what stands in registers then meet in registers.
-fn again(load: Load) -> Load
-    ensures { λ r. ⌜ r ≡ load ⌝ }
-{
-    let phase = load.phase;
-    let table = load.table;
-    Load {
-        phase,
-        table,
-        placed: load.placed,
-        due: load.due,
-        first: load.first,
-        second: load.second,
-        stream: load.stream,
-        block: load.block,
-    }
-}
-
-// The words of a write, one after the other.
-fn run_write(image: &mut [u32], load: Load, words: &[u32]) -> Load
-    requires { ⌜ Fine (at load (now image)) ⌝ }
-    ensures { λ r. ⌜ Leaves (run (at load (now (image .entry))) (now (words .entry))) r (now (image .exit)) ⌝ }
-{
-    again(run(image, load, words))
 }
 
 // Some words of a whole load at once, its data by the long tables.
@@ -637,72 +612,31 @@ fn opened_run(image: &mut [u32], load: Load, words: &[u32]) -> Load
 {
     let phase = load.phase;
     if is_begun(phase) {
-        return run_write(image, load, words);
+        return run(image, load, words);
     }
     clear(image);
-    run_write(image, load, words)
+    run(image, load, words)
 }
 
-// A write's data of one block alone, one word or more, at the place where they go.
-fn data_in(image: &mut [u32], load: Load, place: usize, words: &[u32]) -> Load
-    requires { ⌜ (imageWords ≤ length (now image)) × Roomy Data load (now image) ⌝ }
-    requires { ⌜ (place ≡ placeIn (now image) (indexOf (load .table)) (load .placed)) × (place + load .due ≤ entryWords) ⌝ }
-    requires { ⌜ (0 < length (now words)) × (length (now words) ≤ load .due) × (load .phase ≡ Data) ⌝ }
-    ensures { λ r. ⌜ Leaves (run (at load (now (image .entry))) (now (words .entry))) r (now (image .exit)) × (r .phase ≡ Data) ⌝ }
+// Where a write's n words go inside a block, where they are data of this block alone and no test refuses them; else behind the image.
+pub fn data_place(image: &[u32], table: Table, placed: usize, due: usize, n: usize) -> usize
+    requires { ⌜ imageWords ≤ length (now image) ⌝ }
+    ensures { λ r. ⌜ r ≡ dataPlace (now (image .entry)) (indexOf table) placed due n ⌝ }
 {
-    let table = load.table;
-    if words.len() == 1 {
-        let word = words[0];
-        image[place] = word;
-        return filling(
-            table,
-            load.placed + 1,
-            load.due - 1,
-            crc::word_in(load.stream, word),
-            crc::word_in(load.block, word),
-        );
+    if outside(n) {
+        return image::counts::IMAGE_WORDS;
     }
-    again(data_run(image, load, words))
-}
-
-// A write to a load that is inside a block. Mostly it has data of this block alone.
-fn in_block(image: &mut [u32], load: Load, words: &[u32]) -> Wrote
-    requires { ⌜ (imageWords ≤ length (now image)) × (load .phase ≡ Data) ⌝ }
-    ensures { λ r. ⌜ Writes load (now (image .entry)) (now (words .entry)) r (now (image .exit)) ⌝ }
-{
+    if due < n {
+        return image::counts::IMAGE_WORDS;
+    }
     if image::counts::over_limit(image) {
-        return Wrote {
-            answer: Answer::Refused(30),
-            load,
-        };
+        return image::counts::IMAGE_WORDS;
     }
-    let table = load.table;
     let room = room_of(image, table);
-    if passes(room.left, load.placed, load.due) {
-        return Wrote {
-            answer: Answer::Refused(30),
-            load,
-        };
+    if passes(room.left, placed, due) {
+        return image::counts::IMAGE_WORDS;
     }
-    if outside(words.len()) {
-        return Wrote {
-            answer: Answer::Refused(32),
-            load,
-        };
-    }
-    if words.len() <= load.due {
-        let next = data_in(image, load, room.place + load.placed, words);
-        return Wrote {
-            answer: Answer::More,
-            load: next,
-        };
-    }
-    let next = run_write(image, load, words);
-    let phase = next.phase;
-    Wrote {
-        answer: answer_of(phase),
-        load: next,
-    }
+    room.place + placed
 }
 
 // Words for a load: its answer and its state afterwards. The buffer's first 11,456 words are the image.
@@ -714,10 +648,6 @@ pub fn write(image: &mut [u32], load: Load, words: &[u32]) -> Wrote
             answer: Answer::Refused(31),
             load,
         };
-    }
-    let phase = load.phase;
-    if let Phase::Data = phase {
-        return in_block(image, load, words);
     }
     if damaged(image, load) {
         return Wrote {

@@ -6,3 +6,4 @@ pub mod Frames
 pub mod Lent
 pub mod Lists
 pub mod Packed
+pub mod Data

@@ -39,7 +39,7 @@ pub struct FlatWrote {
 }
 
 // The number of "more", which document 01 gives none: no refusal has it.
-const MORE: u32 = 0xFFFF_FFFF;
+pub const MORE: u32 = 0xFFFF_FFFF;
 
 fn number_of(answer: Answer) -> u32
     ensures { λ r. ⌜ r ≡ numberOf answer ⌝ }
@@ -136,7 +136,7 @@ fn phase_of(number: u32, told: u32) -> Phase
     }
 }
 
-fn table_of(number: u32) -> Table
+pub fn table_of(number: u32) -> Table
     ensures { λ r. ⌜ r ≡ tableOf number ⌝ }
 {
     match number {

@@ -1,5 +1,5 @@
 -- `tailbow_c::writes::unpacked`: each field is a number or its half.
-use mathlib.Core.Path.{_≡_, refl}
+use mathlib.Core.Path.{refl}
 use borrow.Author.Needs.{needs}
 use denote.Ref.{now}
 use Rattle.tailbow_c.specs.Packed.{unpacked, flat-is}

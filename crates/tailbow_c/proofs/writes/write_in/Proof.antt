@@ -1,59 +1,56 @@
--- `tailbow_c::writes::write_in`: the write on the state that the numbers are, and its state stored in them.
-use mathlib.Core.Path.{_≡_, refl, sym, _∙_, ap, subst}
-use mathlib.Core.List.{List, [], _∷_}
-use Prim.Native.Nat.{ℕ, _/_, _<_}
-use lib.Dec.{lit<}
-use lib.ListN.{length, getD, set, length-set}
+-- `tailbow_c::writes::write_in`: where the words have a place they are taken there, else the write is any.
+use native.Mathlib.Omega.{arith}
 use borrow.Author.Needs.{needs}
 use denote.Ref.{now}
-use Rattle.tailbow_c.specs.Calls.{wroteFlat}
-use Rattle.tailbow_c.specs.Packed.{unpacked, flat-is, six-stores}
-use Rattle.tailbow_c.specs.declared.FlatLoad.{FlatLoad}
+use Rattle.tailbow_c.specs.Packed.{unpacked}
+use Rattle.tailbow_c.proofs.Data.{FlatData, flat-data, by-taking, taking-one}
 use Rattle.tailbow_c.proofs.writes.write_in.Statement.{statement}
 use Rattle.tailbow_c.proofs.writes.write_in.Tie as tie
 
--- a store keeps six numbers six, and an index below six is one of theirs
-after : (l : List ℕ) (i a : ℕ) → length l ≡ 6 → length (set l i a) ≡ 6
-after l i a e = length-set l i a ∙ e
+-- a place in the image: the words are data of one block alone
+abbrev start : tie.Then1 → tie.Start
+start c = c .before .before .before .before .before .before .before
 
-in-six : (l : List ℕ) (i : ℕ) → length l ≡ 6 → i < 6 → i < length l
-in-six l i e h = subst (λ (n : ℕ). i < n) (sym e) h
+taking : (c : tie.Then1) → FlatData (unpacked (now (start c .args .numbers))) (now (start c .args .image)) (now (start c .args .words)) (c .before .place-of .result)
+taking c =
+    let a = start c .args in
+    flat-data (unpacked (now (a .numbers))) (now (a .image)) (now (a .words)) (c .before .place-of .result) (c .before .place-of .ensures) (c .if1 .taken)
 
 returns : tie.Need-returns
 returns c =
-    let s = c .before .before .before .before .before .before .before .before .before .before .before .before .before .before .before .before in
-    let w = c .before .before .before .before .before .before .before .before .before .write-flat in
-    let e = c .before .before .before .before .before .before .before .before .before .before .unpacked .ensures in
-    let n = w .result .load in
-    let all = six-stores (now (s .args .numbers)) (c .before .before .before .joined .result) (c .before .before .joined2 .result) (n .placed) (n .due) (c .before .joined3 .result) (c .joined4 .result) (s .pre) in
-    let is : unpacked (c .before .before .before .joined .result ∷ c .before .before .joined2 .result ∷ n .placed ∷ n .due ∷ c .before .joined3 .result ∷ c .joined4 .result ∷ []) ≡ n =
-    flat-is n _ _ _ _ _ _ _ _ _ (c .before .before .before .joined .ensures .0) (c .before .before .before .joined .ensures .1) (c .before .before .joined2 .ensures .0) refl refl (c .before .joined3 .ensures .0) (c .before .joined3 .ensures .1) (c .joined4 .ensures .0) (c .joined4 .ensures .1) in
-    record {
-      answer = w .ensures .answer ∙ ap (λ (l : FlatLoad). wroteFlat l (now (s .args .image)) (now (s .args .words)) .answer) e;
-      state = ap (λ (l : List ℕ). unpacked l) all ∙ is ∙ w .ensures .state ∙ ap (λ (l : FlatLoad). wroteFlat l (now (s .args .image)) (now (s .args .words)) .load) e;
-      image = w .ensures .kept ∙ ap (λ (l : FlatLoad). wroteFlat l (now (s .args .image)) (now (s .args .words)) .buffer) e;
-      spare = ap (λ (l : List ℕ). getD l 1 0 / 4294967296) all ∙ c .before .before .joined2 .ensures .1 ∙ c .before .before .before .before .high .ensures;
-      six = ap length all;
-    }
+    let t = c .before .before .before .before .before .before .before .before .before in
+    let a = start t .args in
+    by-taking (now (a .numbers)) (now (a .image)) (now (a .words)) _ _ _ _ (taking t)
+    (taking-one (now (a .numbers)) (now (a .image)) (now (a .words)) _ _ _ _ (c .before .before .before .before .before .before .before .before .if2 .taken) (c .before .before .before .before .take-word .ensures))
+
+returns-2 : tie.Need-returns-2
+returns-2 c =
+    let t = c .before .before .before .before .before .before .before .before in
+    let a = start t .args in
+    by-taking (now (a .numbers)) (now (a .image)) (now (a .words)) _ _ _ _ (taking t) (c .before .before .before .before .take-words .ensures)
 
 pub write-in-spec : {M : Type 1} → statement M
 write-in-spec =
     tie.close
     (tie.spec
     (λ c κs. search needs)
+    (λ c. search needs)
+    (λ c κs.
+    let t = c .before .before .before .before in
+    let d = taking t in
+    let one = c .before .before .before .if2 .taken in
+    ((start t .pre, omega (arith, one, d .inside)), (omega (arith, one, d .fits), omega (arith, one, d .small))))
+    (λ c. search needs)
+    (λ c. search needs)
+    returns
+    (λ c κs.
+    let t = c .before .before .before in
+    let d = taking t in
+    ((start t .pre, d .inside), (d .fits, omega (arith, d .small))))
+    (λ c. search needs)
+    (λ c. search needs)
+    returns-2
     (λ c κs. search needs)
     (λ c. search needs)
-    (λ c κs. search needs)
-    (λ c κs. search needs)
     (λ c. search needs)
-    (λ c κs. search needs)
-    (λ c. let n = now (c .before .before .before .before .before .before .before .before .before .before .before .before .before .before .args .numbers) in let e = c .before .before .before .before .before .before .before .before .before .before .before .before .before .before .pre in in-six (set n 0 (c .before .joined .result)) 1 (after n 0 (c .before .joined .result) e) (lit< tt))
-    (λ c. let n = now (c .before .before .before .before .before .before .before .before .before .before .before .before .before .before .args .numbers) in let e = c .before .before .before .before .before .before .before .before .before .before .before .before .before .before .pre in in-six (set (set n 0 (c .before .joined .result)) 1 (c .joined2 .result)) 2 (after (set n 0 (c .before .joined .result)) 1 (c .joined2 .result) (after n 0 (c .before .joined .result) e)) (lit< tt))
-    (λ c. let n = now (c .before .before .before .before .before .before .before .before .before .before .before .before .before .before .args .numbers) in let e = c .before .before .before .before .before .before .before .before .before .before .before .before .before .before .pre in in-six (set (set (set n 0 (c .before .joined .result)) 1 (c .joined2 .result)) 2 (c .before .before .before .before .before .before .before .write-flat .result .load .placed)) 3 (after (set (set n 0 (c .before .joined .result)) 1 (c .joined2 .result)) 2 (c .before .before .before .before .before .before .before .write-flat .result .load .placed) (after (set n 0 (c .before .joined .result)) 1 (c .joined2 .result) (after n 0 (c .before .joined .result) e))) (lit< tt))
-    (λ c κs. search needs)
-    (λ c. let n = now (c .before .before .before .before .before .before .before .before .before .before .before .before .before .before .before .args .numbers) in let e = c .before .before .before .before .before .before .before .before .before .before .before .before .before .before .before .pre in in-six (set (set (set (set n 0 (c .before .before .joined .result)) 1 (c .before .joined2 .result)) 2 (c .before .before .before .before .before .before .before .before .write-flat .result .load .placed)) 3 (c .before .before .before .before .before .before .before .before .write-flat .result .load .due)) 4 (after (set (set (set n 0 (c .before .before .joined .result)) 1 (c .before .joined2 .result)) 2 (c .before .before .before .before .before .before .before .before .write-flat .result .load .placed)) 3 (c .before .before .before .before .before .before .before .before .write-flat .result .load .due) (after (set (set n 0 (c .before .before .joined .result)) 1 (c .before .joined2 .result)) 2 (c .before .before .before .before .before .before .before .before .write-flat .result .load .placed) (after (set n 0 (c .before .before .joined .result)) 1 (c .before .joined2 .result) (after n 0 (c .before .before .joined .result) e)))) (lit< tt))
-    (λ c κs. search needs)
-    (λ c. let n = now (c .before .before .before .before .before .before .before .before .before .before .before .before .before .before .before .before .args .numbers) in let e = c .before .before .before .before .before .before .before .before .before .before .before .before .before .before .before .before .pre in in-six (set (set (set (set (set n 0 (c .before .before .before .joined .result)) 1 (c .before .before .joined2 .result)) 2 (c .before .before .before .before .before .before .before .before .before .write-flat .result .load .placed)) 3 (c .before .before .before .before .before .before .before .before .before .write-flat .result .load .due)) 4 (c .before .joined3 .result)) 5 (after (set (set (set (set n 0 (c .before .before .before .joined .result)) 1 (c .before .before .joined2 .result)) 2 (c .before .before .before .before .before .before .before .before .before .write-flat .result .load .placed)) 3 (c .before .before .before .before .before .before .before .before .before .write-flat .result .load .due)) 4 (c .before .joined3 .result) (after (set (set (set n 0 (c .before .before .before .joined .result)) 1 (c .before .before .joined2 .result)) 2 (c .before .before .before .before .before .before .before .before .before .write-flat .result .load .placed)) 3 (c .before .before .before .before .before .before .before .before .before .write-flat .result .load .due) (after (set (set n 0 (c .before .before .before .joined .result)) 1 (c .before .before .joined2 .result)) 2 (c .before .before .before .before .before .before .before .before .before .write-flat .result .load .placed) (after (set n 0 (c .before .before .before .joined .result)) 1 (c .before .before .joined2 .result) (after n 0 (c .before .before .before .joined .result) e))))) (lit< tt))
-    (λ c. c .before .before .before .before .before .before .before .before .before .write-flat .kept .0)
-    (λ c. let n = now (c .before .before .before .before .before .before .before .before .before .before .before .before .before .before .before .before .args .numbers) in let e = c .before .before .before .before .before .before .before .before .before .before .before .before .before .before .before .before .pre in (after (set (set (set (set (set n 0 (c .before .before .before .joined .result)) 1 (c .before .before .joined2 .result)) 2 (c .before .before .before .before .before .before .before .before .before .write-flat .result .load .placed)) 3 (c .before .before .before .before .before .before .before .before .before .write-flat .result .load .due)) 4 (c .before .joined3 .result)) 5 (c .joined4 .result) (after (set (set (set (set n 0 (c .before .before .before .joined .result)) 1 (c .before .before .joined2 .result)) 2 (c .before .before .before .before .before .before .before .before .before .write-flat .result .load .placed)) 3 (c .before .before .before .before .before .before .before .before .before .write-flat .result .load .due)) 4 (c .before .joined3 .result) (after (set (set (set n 0 (c .before .before .before .joined .result)) 1 (c .before .before .joined2 .result)) 2 (c .before .before .before .before .before .before .before .before .before .write-flat .result .load .placed)) 3 (c .before .before .before .before .before .before .before .before .before .write-flat .result .load .due) (after (set (set n 0 (c .before .before .before .joined .result)) 1 (c .before .before .joined2 .result)) 2 (c .before .before .before .before .before .before .before .before .before .write-flat .result .load .placed) (after (set n 0 (c .before .before .before .joined .result)) 1 (c .before .before .joined2 .result) (after n 0 (c .before .before .before .joined .result) e)))))) ∙ sym e)
-    returns)
+    (λ c. search needs))
