@@ -1,2 +1,2 @@
--- CRC-32 by table, four words a turn: what a word leaves by the table, and what a turn makes of a register.
+-- CRC-32 by table, four words a turn: the tables of a turn, and what a word leaves by its table.
 pub mod Turn

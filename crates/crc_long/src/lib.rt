@@ -3,8 +3,9 @@ ghost use mathlib.Core.Path.{_≡_};
 ghost use mathlib.Core.List.{[], _∷_};
 ghost use Prim.Native.Nat.{ℕ, _+_, _*_};
 ghost use Rattle.crc.specs.Crc.{bitsOut, wordsIn};
+ghost use Rattle.crc.specs.Four.{rest};
 ghost use Rattle.crc_table.specs.Table.{IsTable};
-ghost use Rattle.crc_long.specs.Turn.{AreTables, rest};
+ghost use Rattle.crc_long.specs.Turn.{AreTables};
 use crc::Both;
 
 // What a word leaves in the register after the words that follow it in a turn.

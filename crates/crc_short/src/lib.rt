@@ -1,35 +1,87 @@
-// CRC-32 over short runs of words, two words a step, by tables that stand with the code: nothing is made first, and nothing is lent.
-// A step folds in what the step before the last left, so that it does not wait for the last one: each number of the queue holds a register's
-// part and the same two words later. The two registers take turns in a loop, since a table is one load only where it has one caller.
+// CRC-32 over short runs of words, four words a turn, by tables that stand with the code: nothing is made first, and nothing is lent.
+// The tables are those of two words. An entry holds in its low half what a byte leaves and in its high half the same two words later, so that
+// each table serves two words of a turn. A turn takes twenty lookups: eight for its second and last word and four for its third, which the
+// registers share, and four for its first word with each register.
+// The tables are matches, and a table is one load only where it has one caller in the whole program: hence the little loops.
 mod bytes;
 
 ghost use mathlib.Core.Path.{_≡_};
-ghost use Prim.Native.Nat.{_/_, _^_};
+ghost use mathlib.Core.List.{[], _∷_};
+ghost use Prim.Native.Nat.{_/_, _%_, _^_};
 ghost use Rattle.crc.specs.Crc.{bitsOut, wordsIn};
 ghost use Rattle.crc_short.specs.Twice.{twice};
-ghost use Rattle.crc_short.specs.Queue.{Moves, registerOf};
 use crc::Both;
 
-// What the last step and the one before left: a and c of the block's register, b and d of the stream's, the older first.
-struct Queue {
+// What two words leave by the tables.
+struct Two {
+    pub a: u64,
+    pub b: u64,
+}
+
+// What three words leave by the tables.
+struct Three {
     pub a: u64,
     pub b: u64,
     pub c: u64,
-    pub d: u64,
 }
 
-// What the first word of a step leaves.
+// What a word leaves when another word follows it, and the same two words later.
 fn first(w: u32) -> u64
     ensures { λ r. ⌜ r ≡ twice (bitsOut 64 w) ⌝ }
 {
     bytes::byte0(w) ^ bytes::byte1(w >> 8) ^ bytes::byte2(w >> 16) ^ bytes::byte3(w >> 24)
 }
 
-// What the second word of a step leaves.
+// What a word leaves when none follows it, and the same two words later.
 fn second(w: u32) -> u64
     ensures { λ r. ⌜ r ≡ twice (bitsOut 32 w) ⌝ }
 {
     bytes::byte4(w) ^ bytes::byte5(w >> 8) ^ bytes::byte6(w >> 16) ^ bytes::byte7(w >> 24)
+}
+
+// What each of two words leaves by `second`.
+fn seconds(a: u32, b: u32) -> Two
+    ensures { λ r. ⌜ (r .a ≡ twice (bitsOut 32 a)) × (r .b ≡ twice (bitsOut 32 b)) ⌝ }
+{
+    let mut a = a;
+    let mut f: u64 = 0;
+    let mut g: u64 = 0;
+    let mut k: u32 = 0;
+    while k < 2 {
+        f = g;
+        g = second(a);
+        a = b;
+        k += 1;
+    }
+    Two { a: f, b: g }
+}
+
+// What each of three words leaves by `first`.
+fn firsts(a: u32, b: u32, c: u32) -> Three
+    ensures { λ r. ⌜ (r .a ≡ twice (bitsOut 64 a)) × (r .b ≡ twice (bitsOut 64 b)) × (r .c ≡ twice (bitsOut 64 c)) ⌝ }
+{
+    let mut a = a;
+    let mut b = b;
+    let mut f: u64 = 0;
+    let mut g: u64 = 0;
+    let mut h: u64 = 0;
+    let mut k: u32 = 0;
+    while k < 3 {
+        f = g;
+        g = h;
+        h = first(a);
+        a = b;
+        b = c;
+        k += 1;
+    }
+    Three { a: f, b: g, c: h }
+}
+
+// The half of a number that is what a word leaves.
+fn low(u: u64) -> u32
+    ensures { λ r. ⌜ r ≡ u % 2 ^ 32 ⌝ }
+{
+    (u % 4294967296) as u32
 }
 
 // The half of a number that is two words ahead.
@@ -39,53 +91,29 @@ fn ahead(u: u64) -> u32
     (u >> 32) as u32
 }
 
-// Two words go into both registers.
-fn step(q: Queue, v: u32, w: u32) -> Queue
-    ensures { λ r. ⌜ (Moves (q .a) (q .c) (r .a) (r .c) v w) × (Moves (q .b) (q .d) (r .b) (r .d) v w) ⌝ }
+// Four words go into both.
+fn turn(both: Both, v: u32, w: u32, x: u32, y: u32) -> Both
+    ensures { λ r. ⌜ (r .block ≡ wordsIn (both .block) (v ∷ w ∷ x ∷ y ∷ [])) × (r .stream ≡ wordsIn (both .stream) (v ∷ w ∷ x ∷ y ∷ [])) ⌝ }
 {
-    let later = second(w);
-    let mut a = q.a;
-    let mut b = q.b;
-    let mut c = q.c;
-    let mut d = q.d;
-    let mut k: u32 = 0;
-    while k < 2 {
-        let u = first(ahead(a) ^ v) ^ later;
-        a = b;
-        b = c;
-        c = d;
-        d = u;
-        k += 1;
+    let s = seconds(w, y);
+    let f = firsts(x, both.block ^ v, both.stream ^ v);
+    let shared = low(f.a) ^ low(s.b) ^ ahead(s.a);
+    Both {
+        block: ahead(f.b) ^ shared,
+        stream: ahead(f.c) ^ shared,
     }
-    Queue { a, b, c, d }
-}
-
-// The register that two numbers of the queue make.
-fn register(older: u64, newer: u64) -> u32
-    ensures { λ r. ⌜ r ≡ registerOf older newer ⌝ }
-{
-    ((newer % 4294967296) as u32) ^ ahead(older)
 }
 
 // Words go into both.
 pub fn words_in_both(both: Both, words: &[u32]) -> Both
     ensures { λ x. ⌜ (x .block ≡ wordsIn (both .block) (now (words .entry))) × (x .stream ≡ wordsIn (both .stream) (now (words .entry))) ⌝ }
 {
-    let mut q = Queue {
-        a: (both.block as u64) * 4294967296,
-        b: (both.stream as u64) * 4294967296,
-        c: 0,
-        d: 0,
-    };
+    let mut x = both;
     let mut i = 0;
-    while 2 <= words.len() - i {
-        q = step(q, words[i], words[i + 1]);
-        i += 2;
+    while 4 <= words.len() - i {
+        x = turn(x, words[i], words[i + 1], words[i + 2], words[i + 3]);
+        i += 4;
     }
-    let x = Both {
-        block: register(q.a, q.c),
-        stream: register(q.b, q.d),
-    };
     crc::words_in_both(x, &words[i..])
 }
 

@@ -1,7 +1,7 @@
 -- `crc_long::others` meets its contract: each word by the table of its place.
 use mathlib.Core.Path.{ap₂}
 use lib.Bits.{bitXor}
-use Rattle.crc_long.specs.Turn.{rest}
+use Rattle.crc.specs.Four.{rest}
 use borrow.Author.Needs.{needs}
 use Rattle.crc_long.proofs.others.Statement.{statement}
 use Rattle.crc_long.proofs.others.Tie as tie

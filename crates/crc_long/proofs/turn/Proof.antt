@@ -1,5 +1,5 @@
 -- `crc_long::turn` meets its contract: what the first word leaves with the register, and what the others leave.
-use Rattle.crc_long.specs.Turn.{turned}
+use Rattle.crc.specs.Four.{turned}
 use borrow.Author.Needs.{needs}
 use Rattle.crc_long.proofs.turn.Statement.{statement}
 use Rattle.crc_long.proofs.turn.Tie as tie

@@ -1,5 +1,5 @@
 -- `crc_long::turn_both` meets its contract: each register as in `turn`, and what the other words leave once for both.
-use Rattle.crc_long.specs.Turn.{turned}
+use Rattle.crc.specs.Four.{turned}
 use borrow.Author.Needs.{needs}
 use Rattle.crc_long.proofs.turn_both.Statement.{statement}
 use Rattle.crc_long.proofs.turn_both.Tie as tie

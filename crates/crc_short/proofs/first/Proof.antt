@@ -1,6 +1,6 @@
 -- `crc_short::first` meets its contract: the word leaves what its bytes leave.
 use borrow.Author.Needs.{needs}
-use Rattle.crc_short.specs.Queue.{of-bytes}
+use Rattle.crc_short.specs.Turn.{of-bytes}
 use Rattle.crc_short.proofs.first.Statement.{statement}
 use Rattle.crc_short.proofs.first.Tie as tie
 
