@@ -3,3 +3,4 @@ pub mod Crc
 pub mod Check
 pub mod Xor
 pub mod Laws
+pub mod Arm
