@@ -46,7 +46,7 @@ for words in [made[:n] for n in list(range(21)) + [999, 1000]] + [stream]:
     alone, after = crc(words), crc([0x9E00030E] + words)
     for name in ["words_in", "long words_in", "short words_in"]:
         lines.append("%s %d %08x" % (name, len(words), alone))
-    for name in ["words_in_both", "long words_in_both", "short words_in_both"]:
+    for name in ["words_in_both", "long words_in_both", "short words_in_both", "word words_in_both"]:
         lines.append("%s %d %08x %08x" % (name, len(words), alone, after))
 
 with open("stdout", "w") as f:

@@ -4,3 +4,4 @@ pub mod Check
 pub mod Xor
 pub mod Laws
 pub mod Four
+pub mod Arm

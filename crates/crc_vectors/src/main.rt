@@ -170,6 +170,17 @@ fn run_one(
     );
 }
 
+// Words into two registers, one by one.
+fn one_by_one(both: Both, words: &[u32]) -> Both {
+    let mut x = both;
+    let mut i = 0;
+    while i < words.len() {
+        x = crc_word::word_in_both(x, words[i]);
+        i += 1;
+    }
+    x
+}
+
 // The same into two. The second register begins after the word 9E00030E, as a stream's does.
 fn run_two(
     first: &[u32; 1024],
@@ -193,6 +204,7 @@ fn run_two(
         n,
         crc_short::words_in_both(both, words),
     );
+    print_both(b"word words_in_both ", n, one_by_one(both, words));
 }
 
 // The first n words.

@@ -120,7 +120,7 @@ fn take_word(image: &mut [u32], numbers: &mut [u64], place: usize, w: u32) -> u3
     ensures { λ r. ⌜ Takes (now (numbers .entry)) (now (image .entry)) (w ∷ []) place r (now (numbers .exit)) (now (image .exit)) ⌝ }
 {
     image[place] = w;
-    move_on(numbers, 1, crc::word_in_both(sums_of(numbers), w));
+    move_on(numbers, 1, crc_word::word_in_both(sums_of(numbers), w));
     crate::MORE
 }
 

@@ -1,0 +1,73 @@
+#!/usr/bin/env python3
+"""tables.py: writes src/bytes.rt, the four tables as matches, and the proof of each, an answer to an arm. Run it in this folder, then `rt fmt`.
+
+The prover holds each arm to the definition, so nothing rests on this program: it saves writing 1,024 arms by hand.
+"""
+import os
+
+HEAD = """// The tables of CRC-32 by one word, each a match, so that it stands with the code and is never made: what a byte leaves.
+// byteK is the table of the byte at place K of the word, of which 4 - K bytes, its own with them, are still to leave. tables.py made them.
+// A table is inlined, and a lookup is then one load, only where it has one caller in the whole program.
+ghost use mathlib.Core.Path.{_≡_};
+ghost use Prim.Native.Nat.{_%_};
+ghost use Rattle.crc.specs.Crc.{bitsOut};
+"""
+
+TABLE = """
+pub fn byte{k}(b: u32) -> u32
+    ensures {{ λ r. ⌜ r ≡ bitsOut {n} (b % 256) ⌝ }}
+{{
+    let byte = b % 256;
+    match byte + 256 {{
+{arms}
+        _ => crc::bits_out(byte, {n}),
+    }}
+}}
+"""
+
+PROOF = """-- `crc_word::bytes::byte{k}` meets its contract: each arm is made of the entries at the powers of two.
+use mathlib.Core.Path.{{_≡_, refl}}
+use mathlib.Core.List.{{List, [], _∷_}}
+use Prim.Native.Nat.{{ℕ}}
+use borrow.Author.Needs.{{needs}}
+use lib.Dec.{{lit<}}
+use Rattle.crc.specs.Crc.{{bit, bitsOut}}
+use Rattle.crc.specs.Arm.{{basis, bits-linear, arm}}
+use Rattle.crc_word.proofs.bytes.byte{k}.Statement.{{statement}}
+use Rattle.crc_word.proofs.bytes.byte{k}.Tie as tie
+
+abbrev powers : List ℕ
+powers = {powers} ∷ []
+
+are : powers ≡ basis (bitsOut {n}) 0 8
+unfolding bit bitsOut
+are = refl
+
+pub byte{k}-spec : {{M : Type 1}} → statement M
+byte{k}-spec =
+    tie.close
+    (tie.spec
+    (λ c. search needs)
+    (λ c κs. search needs)
+{answers}
+    (λ c. search needs))
+"""
+
+
+def after(bits, r):
+    for _ in range(bits):
+        r = (r >> 1) ^ (0xEDB88320 if r & 1 else 0)
+    return r
+
+
+source = HEAD
+for k in range(4):
+    n = 8 * (4 - k)
+    source += TABLE.format(k=k, n=n, arms="\n".join("        %d => 0x%08X," % (256 + b, after(n, b)) for b in range(256)))
+    os.makedirs("proofs/bytes/byte%d" % k, exist_ok=True)
+    with open("proofs/bytes/byte%d/Proof.antt" % k, "w") as f:
+        f.write(PROOF.format(k=k, n=n,
+            powers=" ∷ ".join("0x%X" % after(n, 1 << p) for p in range(8)),
+            answers="\n".join("    (λ c. arm (bits-linear %d) powers %d _ _ are (lit< tt) tt (c .match .keys%d))" % (n, b, b + 1) for b in range(256))))
+with open("src/bytes.rt", "w") as f:
+    f.write(source)
