@@ -1,5 +1,5 @@
 // CRC-32 of IEEE 802.3 over 32-bit words, each word's low byte first: the plain loops, which need no table.
-// One word, a header or the few words that a run by table leaves over are quickest here; long runs have their own crates.
+// A header, or the few words that a run by table leaves over, goes in here; one word by itself and longer runs have their own crates.
 ghost use mathlib.Core.Path.{_≡_};
 ghost use Rattle.crc.specs.Crc.{bit, bitsOut, byteIn, wordIn, wordsIn, finished, checksum};
 

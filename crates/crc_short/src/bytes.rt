@@ -1,4 +1,4 @@
-// The tables of CRC-32 by two words a step, each a match, so that it stands with the code and is never made: what a byte leaves, and the same two words later.
+// The tables of CRC-32 by two words, each a match, so that it stands with the code and is never made: what a byte leaves, and the same two words later.
 // byteK is the table of the byte at place K of the two words, of which 8 - K bytes, its own with them, are still to leave. tables.py made them.
 // A table is inlined, and a lookup is then one load, only where it has one caller in the whole program.
 ghost use mathlib.Core.Path.{_≡_};
