@@ -90,6 +90,26 @@ some-rest m n p h = some-parts m n p ∙ ap (λ (t : Bool). t || some-below m (f
 pub none-yet : (p : ℕ → Bool) (n m : ℕ) → some-below n p ≡ false → some-below m (from n p) ≡ false → some-below (n + m) p ≡ false
 none-yet p n m h g = some-rest m n p h ∙ g
 
+-- none from i on so far, and none in the group that follows
+pub none-further : (p : ℕ → Bool) (i j m : ℕ) → i ≤ j → some-below (j - i) (from i p) ≡ false → some-below m (from j p) ≡ false
+    → some-below (j + m - i) (from i p) ≡ false
+none-further p i j m l h g =
+    ap (λ (k : ℕ). some-below k (from i p)) more
+    ∙ none-yet (from i p) (j - i) m h (none-more m (from j p) (from (j - i) (from i p)) (λ k q. ap p (there k) ∙ q) g)
+  where
+    more : j + m - i ≡ j - i + m
+    more = omega arith
+
+    there : (k : ℕ) → i + (j - i + k) ≡ j + k
+    there k = omega arith
+
+-- none before i, and none from i to r
+pub none-up-to : (p : ℕ → Bool) (i r : ℕ) → i ≤ r → some-below i p ≡ false → some-below (r - i) (from i p) ≡ false → some-below r p ≡ false
+none-up-to p i r l h g = ap (λ (k : ℕ). some-below k p) whole ∙ none-yet p i (r - i) h g
+  where
+    whole : r ≡ i + (r - i)
+    whole = omega arith
+
 -- a group that lies in the scan and has one
 pub some-in : (m n k : ℕ) (p : ℕ → Bool) → n + k ≤ m → some-below k (from n p) ≡ true → some-below m p ≡ true
 some-in m n k p l h =
@@ -121,3 +141,13 @@ leads-past {n} {top} {p} {key} {b} {low} (suc m) i small l h =
     subst (λ (k : ℕ). Leads n top p key k b low) (add-one (i + m) ∙ sym (add-suc i m))
     (leads-keep (leads-past m i small l (or-left (some-below m (from i p)) (p (i + m)) h)) (small (i + m))
     (ap (λ (t : Bool). cond t (lib.Dec.ltb (key (i + m)) low) false) (or-right (some-below m (from i p)) (p (i + m)) h)))
+
+-- the same up to r
+pub leads-up-to : {n top : ℕ} {p : ℕ → Bool} {key : ℕ → ℕ} {b low : ℕ} (i r : ℕ) → i ≤ r → ((j : ℕ) → key j < top) → Leads n top p key i b low
+    → some-below (r - i) (from i p) ≡ false
+    → Leads n top p key r b low
+leads-up-to {n} {top} {p} {key} {b} {low} i r l small h g =
+    subst (λ (k : ℕ). Leads n top p key k b low) whole (leads-past (r - i) i small h g)
+  where
+    whole : i + (r - i) ≡ r
+    whole = omega arith

@@ -1,11 +1,10 @@
 -- Laws of the scan for the least key: how a loop that keeps the best match so far goes on and ends, and what the match that it gives is.
 use mathlib.Core.Path.{_≡_, refl, sym, _∙_, ap, subst}
-use mathlib.Core.Logic.{_⊎_, inl, inr, ⊎-elim}
+use mathlib.Core.Logic.{_⊎_, ⊎-elim}
 use mathlib.Core.Bool.{Bool, true, false, cond}
 use Prim.Native.Nat.{ℕ, zero, suc, _+_, _<_, _≤_}
-use native.Mathlib.Nat.{le-refl, le-antisymm, le-of-lt, le-step, le-of-suc-le-suc, not-suc-le-zero, eq-or-lt-of-le, lt-irrefl, lt-of-lt-of-le, lt-of-le-of-lt, lt-trans, le-trans}
+use native.Mathlib.Nat.{le-refl, le-antisymm, le-of-lt, le-step, le-of-suc-le-suc, not-suc-le-zero, eq-or-lt-of-le, lt-irrefl, lt-of-lt-of-le, le-trans}
 use native.Mathlib.Numerals.{add-one}
-use native.Mathlib.Omega.{arith}
 use lib.Dec.{ltb}
 use borrow.Author.Tests.{lt-ltb, le-ltb}
 use Rattle.laws.specs.Scan.{least}

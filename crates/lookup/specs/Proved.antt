@@ -1,8 +1,8 @@
 -- What pins the searches: of two entries with one VLANID the first, of two matches the one with the lower INDEX.
-use mathlib.Core.Path.{_≡_, refl, sym, _∙_, subst}
+use mathlib.Core.Path.{_≡_, refl, subst}
 use mathlib.Core.Bool.{Bool, true, false}
 use mathlib.Core.List.{List}
-use Prim.Native.Nat.{ℕ, zero, suc, _+_, _<_, _≤_}
+use Prim.Native.Nat.{ℕ, zero, suc, _<_}
 use native.Mathlib.Nat.{le-refl, le-step}
 use native.Mathlib.Numerals.{add-one}
 use lib.Dec.{eqb}
@@ -11,7 +11,7 @@ use Rattle.laws.specs.Scan.{first, least, first-none, first-more, first-found}
 use Rattle.image.specs.Layout.{countOf}
 use Rattle.image.specs.Fields.{vlanid, index}
 use Rattle.lookup.specs.Vlan.{vlanAt}
-use Rattle.lookup.specs.Address.{matches, destinationAt}
+use Rattle.lookup.specs.Address.{matches}
 use Rattle.lookup.specs.Least.{Scanned, scanned}
 
 none-before : (n : ℕ) (p : ℕ → Bool) → ((j : ℕ) → j < n → p j ≡ false) → first n p ≡ n

@@ -1,5 +1,4 @@
 -- The entry of 07 for a VLAN (document 01, drop 4 and rule 22).
-use mathlib.Core.Path.{_≡_}
 use mathlib.Core.Bool.{Bool}
 use mathlib.Core.List.{List}
 use Prim.Native.Nat.{ℕ}

@@ -1,7 +1,7 @@
 // Entries of 05 for an address: one that bars a source from a port, and the one for a destination.
 ghost use mathlib.Core.Path.{_≡_};
 ghost use mathlib.Core.Bool.{cond, not, false};
-ghost use Prim.Native.Nat.{_+_, _%_, _≤_, _<_};
+ghost use Prim.Native.Nat.{_+_, _-_, _%_, _≤_, _<_};
 ghost use lib.Dec.{ltb, eqb};
 ghost use lib.ListN.{length};
 ghost use Rattle.image.specs.Layout.{Held, imageWords, imageIn, countOf};
@@ -86,6 +86,23 @@ fn none_like(image: &[u32], key: u32, i: usize) -> bool
     all >> 31 == 1
 }
 
+// From entry i on by groups of sixteen: where the first group starts that has the like of the address, or where no whole group is left.
+fn next_like(image: &[u32], key: u32, i: usize, n: usize) -> usize
+    requires { ⌜ (imageWords ≤ length (now image)) × (countOf (imageIn (now image)) 0 ≤ 1024) × (key < 268435456) ⌝ }
+    requires { ⌜ (n ≡ countOf (imageIn (now image)) 0) × (i ≤ n) ⌝ }
+    ensures { λ r. ⌜ (i ≤ r) × (r ≤ n) × (some-below (r - i) (from i (likeAddress (imageIn (now (image .entry))) key)) ≡ false) ⌝ }
+{
+    let mut j = i;
+    while 16 <= n - j {
+        if none_like(image, key, j) {
+            j += 16;
+        } else {
+            return j;
+        }
+    }
+    j
+}
+
 // Does one of `count` entries from i on keep this source from this port?
 fn one_bars(
     image: &[u32],
@@ -110,18 +127,6 @@ fn one_bars(
     false
 }
 
-// The same for sixteen entries: where none is like the address, none bars.
-fn group_bars(image: &[u32], shared: u64, port: usize, vlan: u64, mac: u64, i: usize) -> bool
-    requires { ⌜ (imageWords ≤ length (now image)) × (countOf (imageIn (now image)) 0 ≤ 1024) × (i + 16 ≤ countOf (imageIn (now image)) 0) ⌝ }
-    requires { ⌜ (shared ≡ sharedLearn (imageIn (now image))) × (port < 64) ⌝ }
-    ensures { λ r. ⌜ r ≡ some-below 16 (from i (bars (imageIn (now (image .entry))) port vlan mac)) ⌝ }
-{
-    if none_like(image, key_of(mac), i) {
-        return false;
-    }
-    one_bars(image, shared, port, vlan, mac, i, 16)
-}
-
 // Drop 6: does some entry keep this source from this port?
 pub fn barred(image: &[u32], port: usize, vlan: u64, mac: u64) -> bool
     requires { ⌜ (imageWords ≤ length (now image)) × (countOf (imageIn (now image)) 0 ≤ 1024) × (countOf (imageIn (now image)) 5 ≤ 1) ⌝ }
@@ -130,12 +135,13 @@ pub fn barred(image: &[u32], port: usize, vlan: u64, mac: u64) -> bool
 {
     let n = image::counts::count(image, 0);
     let shared = image::parameters::shared_learn(image);
-    let mut i: usize = 0;
+    let key = key_of(mac);
+    let mut i = next_like(image, key, 0, n);
     while 16 <= n - i {
-        if group_bars(image, shared, port, vlan, mac, i) {
+        if one_bars(image, shared, port, vlan, mac, i, 16) {
             return true;
         }
-        i += 16;
+        i = next_like(image, key, i + 16, n);
     }
     one_bars(image, shared, port, vlan, mac, i, n - i)
 }
@@ -186,18 +192,6 @@ fn lowest(
     Best { entry, low }
 }
 
-// The same for sixteen entries: where none is like the address, none matches.
-fn group_lowest(image: &[u32], shared: u64, vlan: u64, mac: u64, i: usize, best: Best) -> Best
-    requires { ⌜ (imageWords ≤ length (now image)) × (countOf (imageIn (now image)) 0 ≤ 1024) × (i + 16 ≤ countOf (imageIn (now image)) 0) ⌝ }
-    requires { ⌜ (shared ≡ sharedLearn (imageIn (now image))) × Leading (imageIn (now image)) vlan mac i best ⌝ }
-    ensures { λ r. ⌜ Leading (imageIn (now (image .entry))) vlan mac (i + 16) r ⌝ }
-{
-    if none_like(image, key_of(mac), i) {
-        return best;
-    }
-    lowest(image, shared, vlan, mac, i, 16, best)
-}
-
 // The match with the lowest INDEX, of equal ones the first; the count of 05 where nothing matches.
 pub fn destination(image: &[u32], vlan: u64, mac: u64) -> usize
     requires { ⌜ (imageWords ≤ length (now image)) × (countOf (imageIn (now image)) 0 ≤ 1024) × (countOf (imageIn (now image)) 5 ≤ 1) ⌝ }
@@ -209,10 +203,11 @@ pub fn destination(image: &[u32], vlan: u64, mac: u64) -> usize
         entry: n,
         low: 1024,
     };
-    let mut i: usize = 0;
+    let key = key_of(mac);
+    let mut i = next_like(image, key, 0, n);
     while 16 <= n - i {
-        best = group_lowest(image, shared, vlan, mac, i, best);
-        i += 16;
+        best = lowest(image, shared, vlan, mac, i, 16, best);
+        i = next_like(image, key, i + 16, n);
     }
     lowest(image, shared, vlan, mac, i, n - i, best).entry
 }

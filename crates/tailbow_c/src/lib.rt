@@ -176,7 +176,7 @@ pub extern "C" fn tailbow_fresh_load() -> FlatLoad
     flat(0, loader::fresh())
 }
 
-// Words for a load, on its numbers. Its one caller is the entry on a lent load state, so that the two become one.
+// Words for a load, on its numbers.
 pub fn write_flat(image: &mut [u32], load: FlatLoad, words: &[u32]) -> FlatWrote
     ensures { λ r. ⌜ WritesFlat load (now (image .entry)) (now (words .entry)) r (now (image .exit)) ⌝ }
 {
@@ -200,12 +200,7 @@ pub fn write_flat(image: &mut [u32], load: FlatLoad, words: &[u32]) -> FlatWrote
 pub extern "C" fn tailbow_write(image: &mut [u32], load: FlatLoad, words: &[u32]) -> FlatWrote
     ensures { λ r. ⌜ WritesFlat load (now (image .entry)) (now (words .entry)) r (now (image .exit)) ⌝ }
 {
-    let mut numbers = writes::packed(load);
-    let answer = writes::tailbow_write_lent(image, &mut numbers, words);
-    FlatWrote {
-        answer,
-        load: writes::unpacked(&numbers),
-    }
+    write_flat(image, load, words)
 }
 
 // A whole stream of words.

@@ -36,7 +36,7 @@ fn joined(low: u32, high: u32) -> u64
 }
 
 // The load state in six numbers.
-pub fn unpacked(numbers: &[u64]) -> FlatLoad
+fn unpacked(numbers: &[u64]) -> FlatLoad
     requires { ⌜ length (now numbers) ≡ 6 ⌝ }
     ensures { λ r. ⌜ r ≡ unpacked (now (numbers .entry)) ⌝ }
 {
@@ -51,20 +51,6 @@ pub fn unpacked(numbers: &[u64]) -> FlatLoad
         stream: low(numbers[5]),
         block: high(numbers[5]),
     }
-}
-
-// The six numbers of a load state.
-pub fn packed(load: FlatLoad) -> [u64; 6]
-    ensures { λ r. ⌜ (unpacked r ≡ load) × (length r ≡ 6) ⌝ }
-{
-    [
-        joined(load.phase, load.told),
-        wide(load.table),
-        load.placed,
-        load.due,
-        joined(load.first, load.second),
-        joined(load.stream, load.block),
-    ]
 }
 
 // Where a write's n words go, where they are data of one block alone and no test refuses them; else behind the image.

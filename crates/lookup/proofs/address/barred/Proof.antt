@@ -1,43 +1,54 @@
--- `lookup::address::barred`: none of the groups that the loop has passed bars the source.
-use mathlib.Core.Path.{_≡_, refl, sym, _∙_, ap}
+-- `lookup::address::barred`: none of the entries that the loop has passed bars the source.
+use mathlib.Core.Path.{_≡_, sym, _∙_, ap}
 use mathlib.Core.Bool.{false}
-use Prim.Native.Nat.{ℕ, _+_, _-_, _≤_, _<_}
+use Prim.Native.Nat.{ℕ, _+_, _-_, _≤_}
 use native.Mathlib.Omega.{arith}
 use borrow.Author.Needs.{needs}
 use denote.Ref.{now}
 use Rattle.laws.specs.Scan.{some-below, some-none}
 use Rattle.image.specs.Layout.{imageIn, countOf}
 use Rattle.lookup.specs.Address.{bars}
-use Rattle.lookup.specs.Groups.{none-yet, some-rest, some-in}
+use Rattle.lookup.specs.Groups.{none-yet, none-up-to, some-rest, some-in}
+use Rattle.lookup.specs.Leading.{none-bar}
 use Rattle.lookup.proofs.address.barred.Statement.{statement}
 use Rattle.lookup.proofs.address.barred.Tie as tie
 
 abbrev Inv-loop : tie.InvT-loop
-Inv-loop image port vlan mac n shared i₀ i = (i ≤ n) × (some-below i (bars (imageIn image) port vlan mac) ≡ false)
+Inv-loop image port vlan mac n shared key i₀ i = (i ≤ n) × (some-below i (bars (imageIn image) port vlan mac) ≡ false)
 
 abbrev μ-loop : tie.MeasureT-loop
-μ-loop image port vlan mac n shared i₀ i = n - i
+μ-loop image port vlan mac n shared key i₀ i = n - i
+
+loop-holds : tie.Need-loop-holds Inv-loop μ-loop
+loop-holds c =
+    let a = c .before .before .before .before .before .args in
+    let t = c .next-like .ensures in
+    let image = imageIn (now (a .image)) in
+    (t .1, none-up-to (bars image (a .port) (a .vlan) (a .mac)) 0 (c .next-like .result) (t .0) (some-none _) (none-bar image (a .vlan) (a .mac) _ 0 _ (c .before .key-of .ensures .0) (t .2) (a .port)))
 
 returns : tie.Need-returns Inv-loop μ-loop
 returns c =
     let l = c .before .before .before .loop in
-    let a = c .before .before .before .before .before .before .before .args in
-    sym (some-in (countOf (imageIn (now (a .image))) 0) (l .i) 16 _ (omega arith) (sym (c .before .group-bars .ensures) ∙ c .if1 .taken))
+    let a = c .before .before .before .before .before .before .before .before .before .args in
+    sym (some-in (countOf (imageIn (now (a .image))) 0) (l .i) 16 _ (omega arith) (sym (c .before .one-bars .ensures) ∙ c .if1 .taken))
 
 loop-again : tie.Need-loop-again Inv-loop μ-loop
 loop-again c =
-    let l = c .before .before .before .loop in
-    let a = c .before .before .before .before .before .before .before .args in
-    (omega arith, none-yet (bars (imageIn (now (a .image))) (a .port) (a .vlan) (a .mac)) (l .i) 16 (l .inv .1) (sym (c .before .group-bars .ensures) ∙ c .if1 .left))
+    let l = c .before .before .before .before .loop in
+    let a = c .before .before .before .before .before .before .before .before .before .before .args in
+    let t = c .next-like2 .ensures in
+    let image = imageIn (now (a .image)) in
+    let p = bars image (a .port) (a .vlan) (a .mac) in
+    (t .1, none-up-to p (l .i + 16) (c .next-like2 .result) (t .0) (none-yet p (l .i) 16 (l .inv .1) (sym (c .before .before .one-bars .ensures) ∙ c .before .if1 .left)) (none-bar image (a .vlan) (a .mac) _ (l .i + 16) _ (c .before .before .before .before .before .before .key-of .ensures .0) (t .2) (a .port)))
 
 returns-2 : tie.Need-returns-2 Inv-loop μ-loop
 returns-2 c =
     let l = c .before .before .loop in
-    let n = c .before .before .before .before .count in
-    let a = c .before .before .before .before .before .before .args in
+    let n = c .before .before .before .before .before .before .count in
+    let a = c .before .before .before .before .before .before .before .before .args in
     let p = bars (imageIn (now (a .image))) (a .port) (a .vlan) (a .mac) in
     let whole : l .i + (n .result - l .i) ≡ n .result = omega arith in
-    c .one-bars .ensures ∙ sym (some-rest (n .result - l .i) (l .i) p (l .inv .1)) ∙ ap (λ (k : ℕ). some-below k p) (whole ∙ n .ensures .0)
+    c .one-bars2 .ensures ∙ sym (some-rest (n .result - l .i) (l .i) p (l .inv .1)) ∙ ap (λ (k : ℕ). some-below k p) (whole ∙ n .ensures .0)
 
 pub barred-spec : {M : Type 1} → statement M
 barred-spec =
@@ -47,11 +58,14 @@ barred-spec =
     μ-loop
     (λ c κs. search needs)
     (λ c κs. search needs)
-    (λ c. (search needs, some-none _))
+    (λ c κs. search needs)
+    (λ c κs. search needs)
+    loop-holds
     (λ c. search needs)
     (λ c κs. search needs)
     returns
     (λ c. search needs)
+    (λ c κs. search needs)
     (λ c. search needs)
     loop-again
     (λ c. search needs)

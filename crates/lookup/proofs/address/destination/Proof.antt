@@ -1,33 +1,48 @@
 -- `lookup::address::destination`: the loop holds the lowest match so far and its INDEX.
-use mathlib.Core.Path.{_≡_, refl, sym, _∙_, ap, subst}
-use mathlib.Core.List.{List}
-use Prim.Native.Nat.{ℕ, _+_, _-_, _≤_, _<_}
-use native.Mathlib.Nat.{le-refl, le-of-eq}
+use mathlib.Core.Path.{_≡_, refl, sym, _∙_, subst}
+use Prim.Native.Nat.{ℕ, _+_, _-_, _≤_}
+use native.Mathlib.Nat.{le-of-eq, mod-lt}
 use native.Mathlib.Omega.{arith}
+use lib.Pow.{pow-pos}
 use borrow.Author.Needs.{needs}
 use denote.Ref.{now}
 use Rattle.image.specs.Layout.{imageIn, countOf}
 use Rattle.image.specs.Fields.{index}
 use Rattle.lookup.specs.Address.{matches}
+use Rattle.lookup.specs.Groups.{leads-up-to}
 use Rattle.lookup.specs.Least.{Leads, leads-none, leads-end, leads-within}
-use Rattle.lookup.specs.Leading.{Leading}
+use Rattle.lookup.specs.Leading.{Leading, none-match}
 use Rattle.lookup.proofs.address.destination.Statement.{statement}
 use Rattle.lookup.proofs.address.destination.Tie as tie
 
 abbrev Inv-loop : tie.InvT-loop
-Inv-loop image vlan mac n shared best₀ i₀ best i = (i ≤ n) × Leading (imageIn image) vlan mac i best
+Inv-loop image vlan mac n shared key best₀ i₀ best i = (i ≤ n) × Leading (imageIn image) vlan mac i best
 
 abbrev μ-loop : tie.MeasureT-loop
-μ-loop image vlan mac n shared best₀ i₀ best i = n - i
+μ-loop image vlan mac n shared key best₀ i₀ best i = n - i
+
+loop-holds : tie.Need-loop-holds Inv-loop μ-loop
+loop-holds c =
+    let a = c .before .before .before .before .before .args in
+    let t = c .next-like .ensures in
+    let image = imageIn (now (a .image)) in
+    (t .1, leads-up-to 0 (c .next-like .result) (t .0) (λ j. mod-lt _ (pow-pos 10)) (subst (λ (n : ℕ). Leads (countOf image 0) 1024 (matches image (a .vlan) (a .mac)) (index image) 0 n 1024) (sym (c .before .before .before .count .ensures .0)) (leads-none _ _ _ _)) (none-match image (a .vlan) (a .mac) _ 0 _ (c .before .key-of .ensures .0) (t .2)))
+
+loop-again : tie.Need-loop-again Inv-loop μ-loop
+loop-again c =
+    let l = c .before .before .before .loop in
+    let a = c .before .before .before .before .before .before .before .before .before .args in
+    let t = c .next-like2 .ensures in
+    (t .1, leads-up-to (l .i + 16) (c .next-like2 .result) (t .0) (λ j. mod-lt _ (pow-pos 10)) (c .before .lowest .ensures) (none-match (imageIn (now (a .image))) (a .vlan) (a .mac) _ (l .i + 16) _ (c .before .before .before .before .before .key-of .ensures .0) (t .2)))
 
 returns : tie.Need-returns Inv-loop μ-loop
 returns c =
     let l = c .before .before .loop in
-    let n = c .before .before .before .before .count in
+    let n = c .before .before .before .before .before .before .count in
     let whole : l .i + (n .result - l .i) ≡ n .result = omega arith in
     let at = le-of-eq (whole ∙ n .ensures .0) in
     let back = le-of-eq (sym (whole ∙ n .ensures .0)) in
-    (leads-end _ refl back at (c .lowest .ensures), leads-within at (c .lowest .ensures))
+    (leads-end _ refl back at (c .lowest2 .ensures), leads-within at (c .lowest2 .ensures))
 
 pub destination-spec : {M : Type 1} → statement M
 destination-spec =
@@ -37,14 +52,15 @@ destination-spec =
     μ-loop
     (λ c κs. search needs)
     (λ c κs. search needs)
-    (λ c.
-    let a = c .before .before .before .args in
-    (search needs, subst (λ (n : ℕ). Leads (countOf (imageIn (now (a .image))) 0) 1024 (matches (imageIn (now (a .image))) (a .vlan) (a .mac)) (index (imageIn (now (a .image)))) 0 n 1024) (sym (c .before .count .ensures .0)) (leads-none _ _ _ _)))
+    (λ c κs. search needs)
+    (λ c κs. search needs)
+    loop-holds
     (λ c. search needs)
     (λ c κs. search needs)
     (λ c. search needs)
+    (λ c κs. search needs)
     (λ c. search needs)
-    (λ c. (omega arith, c .group-lowest .ensures))
+    loop-again
     (λ c. search needs)
     (λ c κs. search needs)
     returns)

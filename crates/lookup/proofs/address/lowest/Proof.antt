@@ -1,12 +1,11 @@
 -- `lookup::address::lowest`: the loop holds the lowest match so far and its INDEX.
-use mathlib.Core.Path.{_≡_, refl, sym, _∙_, ap}
+use mathlib.Core.Path.{_≡_, sym, ap}
 use mathlib.Core.Logic.{⊎-elim}
 use Prim.Native.Nat.{ℕ, _+_, _-_, _≤_}
 use native.Mathlib.Omega.{arith}
 use native.Mathlib.Nat.{mod-lt, add-zero, le-antisymm}
 use lib.Pow.{pow-pos}
 use borrow.Author.Needs.{needs}
-use denote.Ref.{now}
 use Rattle.image.specs.Layout.{imageIn, countOf}
 use Rattle.image.specs.Fields.{index}
 use Rattle.lookup.specs.Address.{matches}

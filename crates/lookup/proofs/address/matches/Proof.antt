@@ -1,6 +1,6 @@
 -- `lookup::address::matches`: the address, then the VLAN where VLANs are compared.
 use borrow.Author.Needs.{needs}
-use mathlib.Core.Path.{_≡_, ap, sym, _∙_}
+use mathlib.Core.Path.{ap}
 use Prim.Native.Nat.{ℕ}
 use lib.Dec.{eqb}
 use Rattle.laws.specs.Chain.{chain, carried, pass-eq, pass-ne, of-eq, of-ne}

@@ -1,12 +1,11 @@
 -- `lookup::address::none_like`: the top bit is set as long as none of the entries is like the address.
-use mathlib.Core.Path.{_≡_, refl, sym, _∙_, ap}
-use mathlib.Core.Bool.{Bool, not}
+use mathlib.Core.Path.{_∙_, ap}
+use mathlib.Core.Bool.{not}
 use Prim.Native.Nat.{ℕ, _-_, _<_, _≤_, _^_}
-use native.Mathlib.Nat.{le-antisymm, lt-trans, lt-of-lt-of-le}
+use native.Mathlib.Nat.{le-antisymm, lt-trans}
 use native.Mathlib.Omega.{arith}
 use lib.Dec.{eqb}
 use borrow.Author.Needs.{needs}
-use denote.Ref.{now}
 use Rattle.laws.specs.Scan.{flag}
 use Rattle.image.specs.Layout.{imageIn}
 use Rattle.lookup.specs.Groups.{from, Clear, clear-none, clear-more, clear-end}

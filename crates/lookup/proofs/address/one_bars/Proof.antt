@@ -1,10 +1,9 @@
 -- `lookup::address::one_bars`: none of the entries that the loop has passed bars the source.
 use mathlib.Core.Path.{_≡_, refl, sym, _∙_}
 use mathlib.Core.Bool.{false}
-use Prim.Native.Nat.{ℕ, _-_, _≤_}
+use Prim.Native.Nat.{_-_, _≤_}
 use native.Mathlib.Omega.{arith}
 use borrow.Author.Needs.{needs}
-use denote.Ref.{now}
 use Rattle.laws.specs.Scan.{some-below, some-none, some-not, some-found, some-end}
 use Rattle.image.specs.Layout.{imageIn}
 use Rattle.lookup.specs.Address.{bars}
