@@ -1,4 +1,4 @@
-// The ledger as 119 numbers that are lent, in the order of `ledger::Ledger`: a frame and a release load and store only the cells that they touch.
+// The ledger as 119 numbers that are lent, in the order of `ledger::Ledger`: 39 looks at all of them, and a frame or a release stores only the cells that it changes.
 use judge::MOST_BYTES;
 use judge::MOST_FRAMES;
 use judge::Verdict;

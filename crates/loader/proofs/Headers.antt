@@ -1,10 +1,9 @@
 -- What a block's header comes to, by the test that decided.
 use mathlib.Core.Path.{_≡_, refl, sym, _∙_, ap, subst}
 use mathlib.Core.Logic.{_⊎_, ⊎-elim}
-use mathlib.Core.Bool.{Bool, cond, not}
+use mathlib.Core.Bool.{cond, not}
 use Prim.Native.Nat.{ℕ, suc, _+_, _/_, _%_, _<_, _≤_}
 use native.Mathlib.Nat.{lt-irrefl, le-trans, suc-ne-zero}
-use native.Mathlib.Omega.{arith}
 use lib.Dec.{ltb, eqb, lit≤}
 use lib.ListN.{getD}
 use borrow.Author.Tests.{eq-eqb, ne-eqb, lt-ltb, le-ltb}
@@ -19,7 +18,6 @@ use Rattle.stream.specs.Header.{wrong}
 use Rattle.stream.specs.Headers.{Kind, kind, table-index}
 use Rattle.stream.specs.Runs.{index-lt}
 use Rattle.loader.specs.Leaves.{headerOf}
-use Rattle.loader.specs.declared.Header.{Header}
 use Rattle.loader.specs.declared.Header.the-variants.{Wrong, Right}
 
 is-wrong : (k n had w : ℕ) → suc w ≡ wrong k n had → Wrong (suc w) ≡ headerOf k n had

@@ -1,5 +1,5 @@
 -- Structs of numbers from their parts, and what each way through a write leaves.
-use mathlib.Core.Path.{_≡_, refl, sym, _∙_, ap}
+use mathlib.Core.Path.{_≡_, refl, _∙_, ap}
 use mathlib.Core.Bool.{Bool, true, false, not}
 use mathlib.Core.List.{List}
 use Prim.Native.Nat.{ℕ}
@@ -7,12 +7,11 @@ use Rattle.laws.specs.Chain.{hit, pass}
 use Rattle.image.specs.Loaded.{tooShort}
 use Rattle.image.specs.Tables.{indexOf}
 use Rattle.image.specs.declared.tables.Table.{Table}
-use Rattle.stream.specs.Machine.{Written, wrote}
-use Rattle.stream.specs.declared.Answer.{Answer}
+use Rattle.stream.specs.Machine.{wrote}
 use Rattle.stream.specs.declared.Phase.{Phase}
 use Rattle.stream.specs.declared.Load.{Load}
 use Rattle.tailbow_c.specs.Flat.{phaseNumber, toldIn, flat, isLoad, phaseOf, tableOf, decode}
-use Rattle.tailbow_c.specs.Calls.{numberOf, FlatWritten, flattened, asFoundFlat, wroteFlat, WritesFlat}
+use Rattle.tailbow_c.specs.Calls.{FlatWritten, flattened, asFoundFlat, wroteFlat, WritesFlat}
 use Rattle.tailbow_c.specs.declared.FlatLoad.{FlatLoad}
 use Rattle.tailbow_c.specs.declared.FlatWrote.{FlatWrote}
 

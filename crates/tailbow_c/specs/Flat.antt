@@ -1,6 +1,5 @@
 -- A load state as numbers and back. No state is lost, and every other struct of numbers is one that no state has.
-use mathlib.Core.Path.{_≡_, refl, _∙_, ap}
-use mathlib.Core.Bool.{Bool, true, false, cond}
+use mathlib.Core.Bool.{Bool, false, cond}
 use Prim.Native.Nat.{ℕ}
 use lib.Dec.{ltb, eqb}
 use Rattle.image.specs.Tables.{indexOf}

@@ -2,22 +2,22 @@
 use mathlib.Core.Path.{_≡_, refl, sym, _∙_, ap}
 use mathlib.Core.Bool.{Bool, true, false, cond, not, true≢false}
 use mathlib.Core.List.{List}
-use Prim.Native.Nat.{ℕ, _<_, _≤_}
+use Prim.Native.Nat.{ℕ, _<_}
 use native.Mathlib.Omega.{arith}
 use lib.Dec.{ltb, eqb}
 use borrow.Author.Tests.{ltb-true, ltb-false, eqb-true}
 use Rattle.laws.specs.Scan.{every, every-at}
-use Rattle.laws.specs.Chain.{hit, pass}
+use Rattle.laws.specs.Chain.{pass}
 use Rattle.image.specs.Loaded.{tooShort}
 use Rattle.image.specs.Tables.{indexOf}
 use Rattle.image.specs.declared.tables.Table.{Table}
 use Rattle.image.specs.declared.tables.Table.the-variants.{AddressLookup, Policing, VlanLookup, Forwarding, MacConfiguration, LookupParameters, ForwardingParameters, GeneralParameters, XmiiModeParameters}
-use Rattle.stream.specs.Machine.{Written, wrote}
+use Rattle.stream.specs.Machine.{wrote}
 use Rattle.stream.specs.declared.Phase.{Phase}
 use Rattle.stream.specs.declared.Phase.the-variants.{Device, Id, Length, Sum, Data, Told}
 use Rattle.stream.specs.declared.Load.{Load}
 use Rattle.tailbow_c.specs.Flat.{phaseNumber, toldIn, flat, encode, isLoad, phaseOf, tableOf, decode}
-use Rattle.tailbow_c.specs.Calls.{flattened, FlatWritten, asFoundFlat, wroteFlat}
+use Rattle.tailbow_c.specs.Calls.{flattened, asFoundFlat, wroteFlat}
 use Rattle.tailbow_c.specs.declared.FlatLoad.{FlatLoad}
 
 -- ---- a state, its numbers, the state

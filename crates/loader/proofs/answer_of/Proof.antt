@@ -1,7 +1,6 @@
 -- `loader::answer_of`: by the phase.
-use mathlib.Core.Path.{_≡_, refl, sym, _∙_, ap}
+use mathlib.Core.Path.{sym, _∙_, ap}
 use borrow.Author.Needs.{needs}
-use denote.Ref.{now}
 use Rattle.stream.specs.Machine.{answerOf}
 use Rattle.loader.proofs.answer_of.Statement.{statement}
 use Rattle.loader.proofs.answer_of.Tie as tie

@@ -1,6 +1,5 @@
 -- `loader::begun`: refused, or its data are due.
-use mathlib.Core.Path.{_≡_, refl, sym, _∙_, ap}
-use lib.ListN.{length-set}
+use mathlib.Core.Path.{refl}
 use borrow.Author.Needs.{needs}
 use denote.Ref.{now}
 use Rattle.loader.proofs.Laws.{so, begun-wrong, begun-right}

@@ -1,5 +1,5 @@
 -- `loader::beyond`: what is left is the room less what the table had.
-use mathlib.Core.Path.{_≡_, sym, _∙_, ap}
+use mathlib.Core.Path.{_∙_}
 use native.Mathlib.Nat.{mul-le-mul-right}
 use borrow.Author.Needs.{needs}
 use denote.Ref.{now}

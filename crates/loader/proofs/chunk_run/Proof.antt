@@ -1,5 +1,5 @@
 -- `loader::chunk_run`: the words taken apart so far and those of the bytes that are left are all of them.
-use mathlib.Core.Path.{_≡_, refl, sym, _∙_, ap, subst}
+use mathlib.Core.Path.{_≡_, refl, sym, _∙_, ap}
 use mathlib.Core.List.{List, _++_}
 use Prim.Native.Nat.{ℕ, _-_, _*_, _<_, _≤_, zero-le}
 use native.Mathlib.Omega.{arith}

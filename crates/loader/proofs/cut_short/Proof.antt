@@ -1,8 +1,6 @@
 -- `loader::cut_short`: the image zero and 10.
-use mathlib.Core.Path.{_≡_, refl, sym, _∙_, ap, subst}
+use mathlib.Core.Path.{refl}
 use borrow.Author.Needs.{needs}
-use denote.Ref.{now}
-use Rattle.loader.proofs.Laws.{so}
 use Rattle.loader.proofs.cut_short.Statement.{statement}
 use Rattle.loader.proofs.cut_short.Tie as tie
 

@@ -1,9 +1,7 @@
 -- `loader::damaged`: the tests of 30, in their order.
-use mathlib.Core.Path.{_≡_, refl, sym, _∙_, ap, subst}
+use mathlib.Core.Path.{_≡_, refl, sym, _∙_}
 use borrow.Author.Needs.{needs}
-use denote.Ref.{now}
-use Rattle.loader.proofs.Laws.{so}
-use mathlib.Core.Bool.{Bool, true, false, cond, not}
+use mathlib.Core.Bool.{Bool, false, cond, not}
 use borrow.Author.Tests.{not-true, not-false}
 use Rattle.laws.specs.Chain.{hit, pass}
 use Rattle.image.specs.Sound.{within-limits}

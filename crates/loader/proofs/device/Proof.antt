@@ -1,10 +1,10 @@
 -- `loader::device`: 1, or the blocks follow.
-use mathlib.Core.Path.{_≡_, refl, sym, _∙_, ap, subst}
+use mathlib.Core.Path.{refl, _∙_, ap}
 use borrow.Author.Needs.{needs}
 use denote.Ref.{now}
 use Rattle.loader.proofs.Laws.{so}
 use Rattle.laws.specs.Chain.{hit-ne, pass-ne}
-use Rattle.stream.specs.Machine.{Machine, at, idle}
+use Rattle.stream.specs.Machine.{at, idle}
 use Prim.Native.Nat.{ℕ}
 use Rattle.loader.proofs.device.Statement.{statement}
 use Rattle.loader.proofs.device.Tie as tie

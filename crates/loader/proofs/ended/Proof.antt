@@ -1,6 +1,4 @@
 -- `loader::ended`: 8, or the end.
-use mathlib.Core.Path.{_≡_, refl, sym, _∙_, ap}
-use lib.ListN.{length-set}
 use borrow.Author.Needs.{needs}
 use denote.Ref.{now}
 use Rattle.loader.proofs.Laws.{so, ended-8, ended-on}

@@ -1,6 +1,5 @@
 -- `loader::filled`: 7, the count raised, or a word stored.
-use mathlib.Core.Path.{_≡_, refl, sym, _∙_, ap}
-use lib.ListN.{length-set}
+use mathlib.Core.Path.{refl}
 use borrow.Author.Needs.{needs}
 use denote.Ref.{now}
 use Rattle.loader.proofs.Laws.{so, filled-7, filled-sum, filled-word}

@@ -1,5 +1,5 @@
 -- `loader::fresh_run`: the cleared buffer, from a fresh state.
-use mathlib.Core.Path.{_≡_, refl, sym, _∙_, ap, subst}
+use mathlib.Core.Path.{sym, _∙_, ap, subst}
 use borrow.Author.Needs.{needs}
 use denote.Ref.{now}
 use Rattle.loader.proofs.Laws.{so, started}

@@ -1,9 +1,8 @@
 -- `loader::header_of`: the ID names a table, whose own tests follow, or 4, or 3.
-use mathlib.Core.Path.{_≡_, sym, _∙_, ap}
+use mathlib.Core.Path.{_∙_, ap}
 use Prim.Native.Nat.{ℕ}
 use borrow.Author.Needs.{needs}
 use denote.Ref.{now}
-use Rattle.image.specs.Tables.{indexOf}
 use Rattle.stream.specs.Header.{idOf}
 use Rattle.stream.specs.Machine.{hadIn}
 use Rattle.loader.specs.Leaves.{headerOf}

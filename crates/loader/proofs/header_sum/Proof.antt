@@ -1,8 +1,5 @@
 -- `loader::header_sum`: both words go in.
-use mathlib.Core.Path.{_≡_, refl, sym, _∙_, ap}
-use lib.ListN.{length-set}
 use borrow.Author.Needs.{needs}
-use denote.Ref.{now}
 use Rattle.loader.proofs.Laws.{two-words}
 use Rattle.loader.proofs.header_sum.Statement.{statement}
 use Rattle.loader.proofs.header_sum.Tie as tie

@@ -1,5 +1,5 @@
 -- `loader::load_bytes`: 31, 9, or the run settled.
-use mathlib.Core.Path.{_≡_, refl, sym, _∙_, ap, subst}
+use mathlib.Core.Path.{refl, sym, _∙_, ap, subst}
 use borrow.Author.Needs.{needs}
 use denote.Ref.{now}
 use Rattle.loader.proofs.Laws.{ends-as, bytes-31, bytes-9, bytes-whole, has-room, leaves-at}

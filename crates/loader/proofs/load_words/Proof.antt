@@ -1,5 +1,5 @@
 -- `loader::load_words`: 31, or the run settled.
-use mathlib.Core.Path.{_≡_, refl, sym, _∙_, ap, subst}
+use mathlib.Core.Path.{refl, sym, _∙_, ap, subst}
 use borrow.Author.Needs.{needs}
 use denote.Ref.{now}
 use Rattle.loader.proofs.Laws.{ends-as, words-31, words-on, has-room, leaves-at}

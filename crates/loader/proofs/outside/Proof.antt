@@ -1,8 +1,5 @@
 -- `loader::outside`: 0, or above 64.
-use mathlib.Core.Path.{_≡_, refl, sym, _∙_, ap, subst}
-use borrow.Author.Needs.{needs}
-use denote.Ref.{now}
-use Rattle.loader.proofs.Laws.{so}
+use mathlib.Core.Path.{refl}
 use Rattle.laws.specs.Chain.{hit-eq, pass-eq}
 use Rattle.loader.proofs.outside.Statement.{statement}
 use Rattle.loader.proofs.outside.Tie as tie

@@ -1,8 +1,7 @@
 -- `loader::passes`: the difference that is tested says what the sum says.
-use mathlib.Core.Path.{_≡_, sym}
+use mathlib.Core.Path.{sym}
 use Prim.Native.Nat.{_+_}
 use native.Mathlib.Omega.{arith}
-use borrow.Author.Needs.{needs}
 use borrow.Author.Tests.{lt-ltb}
 use Rattle.loader.proofs.Laws.{same-test}
 use Rattle.loader.proofs.passes.Statement.{statement}

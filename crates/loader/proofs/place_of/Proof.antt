@@ -1,9 +1,7 @@
 -- `loader::place_of`: what 30 asked keeps the place inside its table.
-use mathlib.Core.Path.{_≡_, ap}
+use mathlib.Core.Path.{ap}
 use Prim.Native.Nat.{ℕ, _+_}
-use native.Mathlib.Nat.{le-trans, le-add-right, add-assoc, le-of-eq}
 use native.Mathlib.Omega.{arith}
-use borrow.Author.Needs.{needs}
 use Rattle.loader.proofs.place_of.Statement.{statement}
 use Rattle.loader.proofs.place_of.Tie as tie
 

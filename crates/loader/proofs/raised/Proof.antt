@@ -1,6 +1,5 @@
 -- `loader::raised`: what 30 asked keeps the count within its limit.
-use mathlib.Core.Path.{_≡_}
-use Prim.Native.Nat.{ℕ, _≤_, _+_, _/_}
+use Prim.Native.Nat.{_≤_, _+_, _/_}
 use native.Mathlib.Nat.{le-trans}
 use native.Mathlib.Omega.{arith}
 use borrow.Author.Needs.{needs}

@@ -1,9 +1,7 @@
 -- `loader::room_of`: a table's entries lie among all entries.
-use mathlib.Core.Path.{_≡_}
 use native.Mathlib.Omega.{arith}
 use borrow.Author.Needs.{needs}
 use denote.Ref.{now}
-use Rattle.image.specs.Layout.{entryWords}
 use Rattle.loader.proofs.Laws.{Bounds, bounds}
 use Rattle.loader.proofs.room_of.Statement.{statement}
 use Rattle.loader.proofs.room_of.Tie as tie

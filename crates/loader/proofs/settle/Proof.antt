@@ -1,5 +1,5 @@
 -- `loader::settle`: by the phase.
-use mathlib.Core.Path.{_≡_, refl, sym, _∙_, ap, subst}
+use mathlib.Core.Path.{refl}
 use borrow.Author.Needs.{needs}
 use denote.Ref.{now}
 use Rattle.loader.proofs.Laws.{settles}

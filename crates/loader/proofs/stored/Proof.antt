@@ -1,5 +1,5 @@
 -- `loader::stored`: what was stored and summed is the machine's run.
-use mathlib.Core.Path.{_≡_, refl, ap}
+use mathlib.Core.Path.{refl, ap}
 use borrow.Author.Needs.{needs}
 use denote.Ref.{now}
 use Rattle.stream.specs.declared.Load.{Load}

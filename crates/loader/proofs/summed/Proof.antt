@@ -1,6 +1,4 @@
 -- `loader::summed`: the end, 2, or a block begins.
-use mathlib.Core.Path.{_≡_, refl, sym, _∙_, ap}
-use lib.ListN.{length-set}
 use borrow.Author.Needs.{needs}
 use denote.Ref.{now}
 use Rattle.loader.proofs.Laws.{so, summed-end, summed-2, summed-on}
