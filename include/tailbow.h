@@ -170,6 +170,7 @@ struct tailbow_wrote tailbow_write(uint32_t *image, size_t image_words, struct t
 /*
  * The same write to a load state that is lent: the answer is `answer` of what tailbow_write returns, and afterwards *load is its `load`, so a
  * refusal and a repeated answer leave it as found. The four bytes behind `table`, which belong to no field, are kept.
+ * Where writes are short or many this is the quicker one: the state is not copied.
  * The load state must point to one struct tailbow_load that lies in no slice of the call. It must not be null.
  */
 uint32_t tailbow_write_lent(uint32_t *image, size_t image_words, struct tailbow_load *load, const uint32_t *words, size_t count);
