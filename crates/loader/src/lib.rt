@@ -476,7 +476,12 @@ fn some_long(
             return Took { load: next, count };
         }
     }
-    some(image, load, words)
+    // not by `some`: with one caller it becomes part of `run`
+    let next = run(image, load, &words[..1]);
+    Took {
+        load: next,
+        count: 1,
+    }
 }
 
 // Words of a whole load, one after the other.
@@ -694,8 +699,8 @@ fn settle(image: &mut [u32], load: Load) -> Answer
     }
 }
 
-// Words from a fresh load state.
-fn fresh_run(image: &mut [u32], words: &[u32]) -> Load
+// Words from a fresh load state, by the long tables.
+fn fresh_long(image: &mut [u32], words: &[u32]) -> Load
     requires { ⌜ imageWords ≤ length (now image) ⌝ }
     ensures { λ r. ⌜ Leaves (run (at fresh (cleared (now (image .entry)))) (now (words .entry))) r (now (image .exit)) ⌝ }
 {
@@ -709,6 +714,26 @@ fn fresh_run(image: &mut [u32], words: &[u32]) -> Load
         &crc_table::third(),
         &crc_table::last(),
     )
+}
+
+// The same by the short tables.
+fn fresh_short(image: &mut [u32], words: &[u32]) -> Load
+    requires { ⌜ imageWords ≤ length (now image) ⌝ }
+    ensures { λ r. ⌜ Leaves (run (at fresh (cleared (now (image .entry)))) (now (words .entry))) r (now (image .exit)) ⌝ }
+{
+    clear(image);
+    run(image, fresh(), words)
+}
+
+// The same. Making the long tables pays from some thousands of words on.
+fn fresh_run(image: &mut [u32], words: &[u32]) -> Load
+    requires { ⌜ imageWords ≤ length (now image) ⌝ }
+    ensures { λ r. ⌜ Leaves (run (at fresh (cleared (now (image .entry)))) (now (words .entry))) r (now (image .exit)) ⌝ }
+{
+    if words.len() < 4096 {
+        return fresh_short(image, words);
+    }
+    fresh_long(image, words)
 }
 
 // A whole stream of words.
@@ -738,17 +763,8 @@ fn word_at(bytes: &[u8], i: usize) -> u32
 }
 
 // Bytes of 256 words at most: their words first, then these at once.
-fn chunk_run(
-    image: &mut [u32],
-    load: Load,
-    bytes: &[u8],
-    first: &[u32; 1024],
-    second: &[u32; 1024],
-    third: &[u32; 1024],
-    last: &[u32; 1024],
-) -> Load
+fn chunk_run(image: &mut [u32], load: Load, bytes: &[u8]) -> Load
     requires { ⌜ Fine (at load (now image)) × (length (now bytes) ≤ 1024) ⌝ }
-    requires { ⌜ AreTables (now first) (now second) (now third) (now last) ⌝ }
     ensures { λ r. ⌜ Leaves (run (at load (now (image .entry))) (wordsOf (now (bytes .entry)))) r (now (image .exit)) ⌝ }
 {
     let mut words = [0; 256];
@@ -757,37 +773,7 @@ fn chunk_run(
         words[k] = word_at(bytes, 4 * k);
         k += 1;
     }
-    run_long(image, load, &words[..k], first, second, third, last)
-}
-
-// Bytes from a fresh load state and a zeroed image.
-fn chunks(
-    image: &mut [u32],
-    bytes: &[u8],
-    first: &[u32; 1024],
-    second: &[u32; 1024],
-    third: &[u32; 1024],
-    last: &[u32; 1024],
-) -> Load
-    requires { ⌜ Fine (at fresh (now image)) ⌝ }
-    requires { ⌜ AreTables (now first) (now second) (now third) (now last) ⌝ }
-    ensures { λ r. ⌜ Leaves (run (at fresh (now (image .entry))) (wordsOf (now (bytes .entry)))) r (now (image .exit)) ⌝ }
-{
-    let mut state = fresh();
-    let mut i: usize = 0;
-    while 1024 <= bytes.len() - i {
-        state = chunk_run(
-            image,
-            state,
-            &bytes[i..i + 1024],
-            first,
-            second,
-            third,
-            last,
-        );
-        i += 1024;
-    }
-    chunk_run(image, state, &bytes[i..], first, second, third, last)
+    run(image, load, &words[..k])
 }
 
 // Bytes from a fresh load state.
@@ -796,11 +782,13 @@ fn bytes_run(image: &mut [u32], bytes: &[u8]) -> Load
     ensures { λ r. ⌜ Leaves (run (at fresh (cleared (now (image .entry)))) (wordsOf (now (bytes .entry)))) r (now (image .exit)) ⌝ }
 {
     clear(image);
-    let first = crc_table::first();
-    let second = crc_table::second();
-    let third = crc_table::third();
-    let last = crc_table::last();
-    chunks(image, bytes, &first, &second, &third, &last)
+    let mut state = fresh();
+    let mut i: usize = 0;
+    while 1024 <= bytes.len() - i {
+        state = chunk_run(image, state, &bytes[i..i + 1024]);
+        i += 1024;
+    }
+    chunk_run(image, state, &bytes[i..])
 }
 
 // A whole stream of bytes.

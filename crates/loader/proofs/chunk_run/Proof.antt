@@ -14,14 +14,14 @@ use Rattle.loader.proofs.chunk_run.Statement.{statement}
 use Rattle.loader.proofs.chunk_run.Tie as tie
 
 abbrev Inv-loop : tie.InvT-loop
-Inv-loop image load bytes first second third last words₀ k₀ words k =
+Inv-loop image load bytes words₀ k₀ words k =
     (4 * k ≤ length bytes) × (length words ≡ 256) × (length bytes ≤ 1024) × (take k words ++ wordsOf (drop (4 * k) bytes) ≡ wordsOf bytes)
 
 abbrev μ-loop : tie.MeasureT-loop
-μ-loop image load bytes first second third last words₀ k₀ words k = length bytes - 4 * k
+μ-loop image load bytes words₀ k₀ words k = length bytes - 4 * k
 
 loop-holds : tie.Need-loop-holds Inv-loop μ-loop
-loop-holds c = (zero-le, refl, c .before .before .pre .0 .1, refl)
+loop-holds c = (zero-le, refl, c .before .before .pre .1, refl)
 
 loop-again : tie.Need-loop-again Inv-loop μ-loop
 loop-again c =
@@ -40,16 +40,16 @@ returns c =
     let a = c .before .before .before .before .before .before .before .before .before .args in
     so
     (ap (λ (ws : List ℕ). run (at (a .load) (now (a .image))) ws) (sym (chunk-end (now (a .bytes)) (l .words) (l .k) (omega arith) (l .inv .0)) ∙ l .inv .3))
-    (c .before .before .run-long .ensures)
+    (c .before .before .run .ensures)
 
-run-long-requires : tie.Need-run-long-requires Inv-loop μ-loop
-run-long-requires c κs = let s = c .before .before .before .before .before .before in (s .pre .0 .0, s .pre .1)
+run-requires : tie.Need-run-requires Inv-loop μ-loop
+run-requires c κs = c .before .before .before .before .before .before .pre .0
 
 array-share-prefix-words : tie.Need-array-share-prefix-words Inv-loop μ-loop
 array-share-prefix-words c = let l = c .before .before .loop in omega (arith, l .inv .0, l .inv .1, l .inv .2)
 
-slice-aggregate-run-long : tie.Need-slice-aggregate-run-long Inv-loop μ-loop
-slice-aggregate-run-long c =
+slice-aggregate-run : tie.Need-slice-aggregate-run Inv-loop μ-loop
+slice-aggregate-run c =
     let l = c .before .before .before .loop in
     sym (length-take-le (l .k) (l .words) (omega (arith, l .inv .0, l .inv .1, l .inv .2)))
 
@@ -70,7 +70,7 @@ chunk-run-spec =
     (λ c. omega arith)
     loop-again
     array-share-prefix-words
-    slice-aggregate-run-long
-    run-long-requires
+    slice-aggregate-run
+    run-requires
     (λ c. search needs)
     returns)

@@ -1,6 +1,7 @@
--- `loader::some_long`: a run of the data that are due, or what `some` takes.
+-- `loader::some_long`: a run of the data that are due, or a run of one word.
 use mathlib.Core.Path.{_≡_, sym, subst}
 use Prim.Native.Nat.{ℕ, _<_, _≤_}
+use lib.Dec.{lit<}
 use lib.ListN.{length, take}
 use lib.Seq.{length-take-le}
 use borrow.Author.Needs.{needs}
@@ -40,6 +41,7 @@ some-long-spec =
     data-run-long-requires
     (λ c. c .before .before .data-run-long .kept .0)
     returns
-    (λ c κs. search needs)
-    (λ c. c .before .before .some .kept .0)
-    (λ c. c .before .before .some .ensures))
+    (λ c. sym (length-take-le 1 (now (c .before .before .before .before .before .args .words)) (c .before .before .before .before .before .pre .0 .1)))
+    (λ c κs. c .before .before .before .before .before .pre .0 .0)
+    (λ c. c .before .before .run .kept .0)
+    (λ c. record { some = lit< tt; fits = c .before .before .before .before .before .before .before .before .pre .0 .1; leaves = c .before .before .run .ensures }))

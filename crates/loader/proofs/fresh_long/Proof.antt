@@ -1,15 +1,15 @@
--- `loader::fresh_run`: the cleared buffer, from a fresh state.
+-- `loader::fresh_long`: the cleared buffer, from a fresh state.
 use mathlib.Core.Path.{sym, _∙_, ap, subst}
 use borrow.Author.Needs.{needs}
 use denote.Ref.{now}
 use Rattle.loader.proofs.Laws.{so, started}
 use Rattle.stream.specs.Machine.{Machine, fresh, run}
 use Rattle.stream.specs.Fine.{Fine, cleared-fine}
-use Rattle.loader.proofs.fresh_run.Statement.{statement}
-use Rattle.loader.proofs.fresh_run.Tie as tie
+use Rattle.loader.proofs.fresh_long.Statement.{statement}
+use Rattle.loader.proofs.fresh_long.Tie as tie
 
-pub fresh-run-spec : {M : Type 1} → statement M
-fresh-run-spec =
+pub fresh-long-spec : {M : Type 1} → statement M
+fresh-long-spec =
     tie.close
     (tie.spec
     (λ c κs. search needs)
