@@ -1,7 +1,6 @@
-//! Where the archive is, and what it and the machine have: the `&mut` form of the judge, and zlib.
+//! Where the archive is, and whether the machine has zlib.
 
 use std::env;
-use std::fs;
 use std::path::PathBuf;
 
 fn main() {
@@ -16,17 +15,9 @@ fn main() {
     println!("cargo:rerun-if-changed={}", archive.display());
     println!("cargo:rustc-link-search=native={}", folder.display());
     println!("cargo:rustc-link-lib=static=tailbow_c");
-    println!("cargo:rustc-check-cfg=cfg(judge_lent)");
     println!("cargo:rustc-check-cfg=cfg(zlib)");
-    if fs::read(&archive).is_ok_and(|bytes| has(&bytes, b"tailbow_judge_lent\0")) {
-        println!("cargo:rustc-cfg=judge_lent");
-    }
     if env::var_os("BENCH_ZLIB").is_some_and(|value| value == "1") {
         println!("cargo:rustc-cfg=zlib");
         println!("cargo:rustc-link-lib=z");
     }
-}
-
-fn has(bytes: &[u8], name: &[u8]) -> bool {
-    bytes.windows(name.len()).any(|window| window == name)
 }

@@ -67,11 +67,11 @@ fn agree_only() -> Result<(), String> {
 
 fn time() -> Result<(), String> {
     agree_only()?;
-    println!("Judge measured with the {}.", ours::JUDGE_FORM);
     println!(
         "Times are medians of {} rounds; q1 and q3 are of the rounds' ratios.",
         measure::ROUNDS
     );
+    println!("Ledger and load state are lent to both; Tailbow's tile takes its ledger by value.");
     println!();
     let main: Vec<Measured> = works::MAIN.iter().map(|(name, _)| timed(name)).collect();
     print_table(&main);

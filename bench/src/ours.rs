@@ -8,14 +8,6 @@ pub const OURS: Program =
 mod linked {
     use crate::flat::{FlatLedger, FlatLoad, FlatOutcome, FlatTile, FlatVerdict};
 
-    #[repr(C)]
-    #[allow(dead_code)]
-    pub struct FlatJudged {
-        pub verdict: FlatVerdict,
-        pub ledger: FlatLedger,
-    }
-
-    #[allow(dead_code)]
     extern "C" {
         pub fn tailbow_write_lent(
             image: *mut u32,
@@ -37,15 +29,6 @@ mod linked {
             count: usize,
         ) -> u32;
         pub fn tailbow_fresh_ledger(image: *const u32, words: usize) -> FlatOutcome;
-        pub fn tailbow_judge(
-            image: *const u32,
-            words: usize,
-            ledger: FlatLedger,
-            port: usize,
-            time: u64,
-            frame: *const u8,
-            bytes: usize,
-        ) -> FlatJudged;
         pub fn tailbow_judge_lent(
             image: *const u32,
             words: usize,
@@ -55,12 +38,12 @@ mod linked {
             frame: *const u8,
             bytes: usize,
         ) -> FlatVerdict;
-        pub fn tailbow_release(
+        pub fn tailbow_release_lent(
             image: *const u32,
             words: usize,
-            ledger: FlatLedger,
+            ledger: *mut FlatLedger,
             partition: usize,
-        ) -> FlatOutcome;
+        ) -> u32;
         pub fn tailbow_tile(
             image: *const u32,
             words: usize,
@@ -90,11 +73,7 @@ fn fresh_ledger(image: &[u32]) -> FlatOutcome {
     unsafe { linked::tailbow_fresh_ledger(image.as_ptr(), image.len()) }
 }
 
-/// Which form of the judge was measured.
-pub const JUDGE_FORM: &str = if cfg!(judge_lent) { "ledger by &mut" } else { "ledger by value" };
-
-/// The one place that knows the form: the `&mut` form where the archive has it.
-#[cfg(judge_lent)]
+/// The ledger is lent, as the peer's is.
 fn judge(
     image: &[u32],
     ledger: &mut FlatLedger,
@@ -107,27 +86,9 @@ fn judge(
     unsafe { linked::tailbow_judge_lent(lent, words, ledger, port, time, bytes, count) }
 }
 
-#[cfg(not(judge_lent))]
-fn judge(
-    image: &[u32],
-    ledger: &mut FlatLedger,
-    port: usize,
-    time: u64,
-    frame: &[u8],
-) -> FlatVerdict {
-    let (lent, words) = (image.as_ptr(), image.len());
-    let (bytes, count) = (frame.as_ptr(), frame.len());
-    let judged = unsafe { linked::tailbow_judge(lent, words, *ledger, port, time, bytes, count) };
-    *ledger = judged.ledger;
-    judged.verdict
-}
-
-/// By value, as the entry is.
+/// The ledger is lent, as the peer's is.
 fn release(image: &[u32], ledger: &mut FlatLedger, partition: usize) -> u32 {
-    let (lent, words) = (image.as_ptr(), image.len());
-    let outcome = unsafe { linked::tailbow_release(lent, words, *ledger, partition) };
-    *ledger = outcome.ledger;
-    outcome.number
+    unsafe { linked::tailbow_release_lent(image.as_ptr(), image.len(), ledger, partition) }
 }
 
 /// By value, as the entry is.

@@ -453,7 +453,7 @@ fn run(image: &mut [u32], load: Load, words: &[u32]) -> Load
     state
 }
 
-// Some words of a whole load at once, its data by the long tables.
+// Some words of a whole load at once: inside a block those that are due, by the long tables, else four.
 fn some_long(
     image: &mut [u32],
     load: Load,
@@ -476,12 +476,10 @@ fn some_long(
             return Took { load: next, count };
         }
     }
-    // not by `some`: with one caller it becomes part of `run`
-    let next = run(image, load, &words[..1]);
-    Took {
-        load: next,
-        count: 1,
-    }
+    // a block's checksum and the next one's header, by `run` and not by `some`, which has one caller so that it becomes part of `run`
+    let count = least(4, words.len());
+    let next = run(image, load, &words[..count]);
+    Took { load: next, count }
 }
 
 // Words of a whole load, one after the other.

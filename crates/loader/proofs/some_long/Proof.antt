@@ -1,4 +1,4 @@
--- `loader::some_long`: a run of the data that are due, or a run of one word.
+-- `loader::some_long`: a run of the data that are due, or of four words.
 use mathlib.Core.Path.{_≡_, sym, subst}
 use Prim.Native.Nat.{ℕ, _<_, _≤_}
 use lib.Dec.{lit<}
@@ -41,7 +41,9 @@ some-long-spec =
     data-run-long-requires
     (λ c. c .before .before .data-run-long .kept .0)
     returns
-    (λ c. sym (length-take-le 1 (now (c .before .before .before .before .before .args .words)) (c .before .before .before .before .before .pre .0 .1)))
-    (λ c κs. c .before .before .before .before .before .pre .0 .0)
+    (λ c κs. search needs)
+    (λ c. sym (length-take-le _ (now (c .before .before .before .before .before .before .args .words)) (c .before .before .least2 .ensures .1)))
+    (λ c κs. c .before .before .before .before .before .before .pre .0 .0)
     (λ c. c .before .before .run .kept .0)
-    (λ c. record { some = lit< tt; fits = c .before .before .before .before .before .before .before .before .pre .0 .1; leaves = c .before .before .run .ensures }))
+    (λ c. let l = c .before .before .before .before .before .least2 .ensures in
+    record { some = l .2 (lit< tt) (c .before .before .before .before .before .before .before .before .before .pre .0 .1); fits = l .1; leaves = c .before .before .run .ensures }))
