@@ -134,41 +134,15 @@ fn both(make: impl Fn(&'static Program) -> Side) -> Vec<(&'static str, Side)> {
     vec![("ours", make(&OURS)), ("peer", make(&PEER))]
 }
 
-const PAGE: usize = 4096;
-
-/// Numbers that begin at a page: both programs have their buffers at the same places of one, so that none has better luck with them.
-struct Paged {
-    space: Vec<u32>,
-    start: usize,
-    length: usize,
-}
-
-impl Paged {
-    fn new(numbers: &[u32]) -> Paged {
-        let mut space = vec![0u32; numbers.len() + PAGE / 4];
-        let start = (PAGE - space.as_ptr() as usize % PAGE) % PAGE / 4;
-        space[start..start + numbers.len()].copy_from_slice(numbers);
-        Paged { space, start, length: numbers.len() }
-    }
-
-    fn numbers(&self) -> &[u32] {
-        &self.space[self.start..self.start + self.length]
-    }
-
-    fn numbers_mut(&mut self) -> &mut [u32] {
-        &mut self.space[self.start..self.start + self.length]
-    }
-}
-
 /// Done on an image buffer of its own.
 fn loading(
     program: &'static Program,
     mut once: impl FnMut(&Program, &mut [u32]) -> u32 + 'static,
 ) -> Side {
-    let mut image = Paged::new(&[0; IMAGE_WORDS]);
+    let mut image = vec![0u32; IMAGE_WORDS];
     Box::new(move |times| {
         for _ in 0..times {
-            let answer = once(program, black_box(image.numbers_mut()));
+            let answer = once(program, black_box(&mut image[..]));
             assert_eq!(answer, 0, "a measured load was refused");
         }
     })
@@ -176,10 +150,8 @@ fn loading(
 
 fn whole(words: &[u32]) -> Vec<(&'static str, Side)> {
     both(|program| {
-        let words = Paged::new(words);
-        loading(program, move |program, image| {
-            (program.load_words)(image, black_box(words.numbers()))
-        })
+        let words = words.to_vec();
+        loading(program, move |program, image| (program.load_words)(image, black_box(&words)))
     })
 }
 
@@ -192,10 +164,8 @@ fn whole_bytes(words: &[u32]) -> Vec<(&'static str, Side)> {
 
 fn writes(words: &[u32], length: usize) -> Vec<(&'static str, Side)> {
     both(|program| {
-        let words = Paged::new(words);
-        loading(program, move |program, image| {
-            in_writes(program, image, black_box(words.numbers()), length)
-        })
+        let words = words.to_vec();
+        loading(program, move |program, image| in_writes(program, image, black_box(&words), length))
     })
 }
 
