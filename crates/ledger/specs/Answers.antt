@@ -6,8 +6,6 @@ use lib.Dec.{eqb}
 use borrow.Author.Tests.{eqb-true}
 use Rattle.ledger.specs.declared.Answer.{Answer}
 use Rattle.ledger.specs.declared.Answer.the-variants.{Refused, Done}
-use Rattle.ledger.specs.declared.Outcome.{Outcome}
-use Rattle.ledger.specs.declared.Ledger.{Ledger}
 
 -- the refusal's number; 0 where the call was done
 abbrev pub numberOf : Answer → ℕ
@@ -24,6 +22,3 @@ numbered n = by (eqb n 0) refl
     by : (t : Bool) → t ≡ eqb n 0 → numberOf (cond t Done (Refused n)) ≡ n
     by true e = sym (eqb-true n 0 (sym e))
     by false e = refl
-
-abbrev pub outcome : Answer → Ledger → Outcome
-outcome a g = record { answer = a; ledger = g }

@@ -1,4 +1,5 @@
--- The ledger: when it is out of range, what a fresh one holds, what a release gives back.
+-- The ledger: its row, when it is out of range, what a fresh one holds, what a release gives back.
+pub mod Row
 pub mod Range
 pub mod Laws
 pub mod Answers

@@ -1,102 +1,64 @@
 // A fresh ledger.
 use crate::Answer;
-use crate::Ledger;
-use crate::Outcome;
+use crate::CELLS;
+use crate::CREDIT;
+use crate::LAST;
+use crate::SINCE;
+use crate::range::LATEST;
 use crate::range::full;
+use crate::range::unloaded;
 ghost use mathlib.Core.Path.{_≡_};
 ghost use Prim.Native.Nat.{_<_};
 ghost use Rattle.image.specs.Layout.{imageIn};
-ghost use Rattle.image.specs.Fields.{partSpc};
 ghost use Rattle.image.specs.Sound.{Sound};
-ghost use Rattle.ledger.specs.Range.{fullOf};
-ghost use Rattle.ledger.specs.Fresh.{table, unloaded, freshOf, noLedger, Freshened};
+ghost use Rattle.ledger.specs.Row.{cellCount};
+ghost use Rattle.ledger.specs.Fresh.{table, freshCell, freshOf, noLedger, Freshened};
 
-// 31, 30; 0 where neither refuses.
-fn unloaded(image: &[u32]) -> u32
-    ensures { λ r. ⌜ r ≡ unloaded (now (image .entry)) ⌝ }
+// Every partition at its PART_SPC, every meter full, nothing anywhere else.
+fn fresh_cell(image: &[u32], n: usize) -> u64
+    requires { ⌜ Sound (now image) ⌝ }
+    ensures { λ r. ⌜ r ≡ freshCell (imageIn (now (image .entry))) n ⌝ }
 {
-    if image::counts::too_short(image) {
-        return 31;
+    if n < CREDIT {
+        return image::parameters::part_spc(image, n);
     }
-    if image::counts::not_loaded(image) {
-        return 30;
+    if n < SINCE {
+        return full(image, n - CREDIT);
     }
     0
 }
 
-// Every partition at its PART_SPC.
-fn all_units(image: &[u32]) -> [u64; 8]
-    requires { ⌜ Sound (now image) ⌝ }
-    ensures { λ r. ⌜ r ≡ table 8 (λ j. partSpc (imageIn (now (image .entry))) j) ⌝ }
-{
-    let mut out = [0u64; 8];
-    let mut j: usize = 0;
-    while j < 8 {
-        out[j] = image::parameters::part_spc(image, j);
-        j += 1;
-    }
-    out
-}
-
-// Every meter full.
-fn all_credit(image: &[u32]) -> [u64; 45]
-    requires { ⌜ Sound (now image) ⌝ }
-    ensures { λ r. ⌜ r ≡ table 45 (λ k. fullOf (imageIn (now (image .entry))) k) ⌝ }
-{
-    let mut out = [0u64; 45];
-    let mut k: usize = 0;
-    while k < 45 {
-        out[k] = full(image, k);
-        k += 1;
-    }
-    out
-}
-
-// No ledger: the last time is one that 39 refuses under every image.
-fn no_ledger() -> Ledger
-    ensures { λ r. ⌜ r ≡ noLedger ⌝ }
-{
-    Ledger {
-        units: [0u64; 8],
-        credit: [0u64; 45],
-        since: [0u64; 45],
-        frames: [0u64; 5],
-        drops: [0u64; 5],
-        octets: [0u64; 5],
-        dropped: [0u64; 5],
-        last: 281474976710656,
-    }
-}
-
-fn fresh(image: &[u32]) -> Ledger
+fn fresh_row(image: &[u32]) -> [u64; CELLS]
     requires { ⌜ Sound (now image) ⌝ }
     ensures { λ r. ⌜ r ≡ freshOf (imageIn (now (image .entry))) ⌝ }
 {
-    Ledger {
-        units: all_units(image),
-        credit: all_credit(image),
-        since: [0u64; 45],
-        frames: [0u64; 5],
-        drops: [0u64; 5],
-        octets: [0u64; 5],
-        dropped: [0u64; 5],
-        last: 0,
+    let mut row = [0u64; CELLS];
+    let mut n: usize = 0;
+    while n < CELLS {
+        row[n] = fresh_cell(image, n);
+        n += 1;
     }
+    row
 }
 
-// Partitions and meters full, times and tiles 0; refused with 31 or 30 there is none.
-pub fn fresh_ledger(image: &[u32]) -> Outcome
-    ensures { λ r. ⌜ Freshened (now (image .entry)) r ⌝ }
+// No ledger: the last time is one that 39 refuses under every image.
+fn no_ledger() -> [u64; CELLS]
+    ensures { λ r. ⌜ r ≡ noLedger ⌝ }
+{
+    let mut row = [0u64; CELLS];
+    row[LAST] = LATEST + 1;
+    row
+}
+
+// Fills the lent row: partitions and meters full, times and tiles 0; refused with 31 or 30, with no ledger.
+pub fn fresh_ledger(image: &[u32], row: &mut [u64; CELLS]) -> Answer
+    ensures { λ r. ⌜ Freshened (now (image .entry)) r (now (row .exit)) ⌝ }
 {
     let refused = unloaded(image);
     if refused != 0 {
-        return Outcome {
-            answer: Answer::Refused(refused),
-            ledger: no_ledger(),
-        };
+        *row = no_ledger();
+        return Answer::Refused(refused);
     }
-    Outcome {
-        answer: Answer::Done,
-        ledger: fresh(image),
-    }
+    *row = fresh_row(image);
+    Answer::Done
 }

@@ -1,28 +1,43 @@
-// The ledger that is kept over a list of records: units left, meters, tiles' counts and the last time.
+// The ledger that is kept over a list of records: one row of numbers, lent to whoever brings it up to date. Where each part starts comes from this one list.
 pub mod fresh;
 pub mod range;
 pub mod units;
 
-// A meter's credit is in millionths of a bit; `since` is a meter's time, `last` the last verdict's, in µs.
-// `octets` and `dropped` are sums of L over all frames and over the dropped ones.
+pub const PARTITIONS: usize = 8;
+
+pub const METERS: usize = 45;
+
+pub const PORTS: usize = 5;
+
+// Units left of each partition.
+pub const UNITS: usize = 0;
+
+// Each meter's credit, in millionths of a bit, and its time in µs.
+pub const CREDIT: usize = UNITS + PARTITIONS;
+
+pub const SINCE: usize = CREDIT + METERS;
+
+// Each port's frames and drops, and the sums of L over them.
+pub const FRAMES: usize = SINCE + METERS;
+
+pub const DROPS: usize = FRAMES + PORTS;
+
+pub const OCTETS: usize = DROPS + PORTS;
+
+pub const DROPPED: usize = OCTETS + PORTS;
+
+// The last verdict's time.
+pub const LAST: usize = DROPPED + PORTS;
+
+pub const CELLS: usize = LAST + 1;
+
+// The row by value.
 pub struct Ledger {
-    pub units: [u64; 8],
-    pub credit: [u64; 45],
-    pub since: [u64; 45],
-    pub frames: [u64; 5],
-    pub drops: [u64; 5],
-    pub octets: [u64; 5],
-    pub dropped: [u64; 5],
-    pub last: u64,
+    pub cells: [u64; CELLS],
 }
 
 // The answer to a fresh ledger and to a release.
 pub enum Answer {
     Refused(u32),
     Done,
-}
-
-pub struct Outcome {
-    pub answer: Answer,
-    pub ledger: Ledger,
 }

@@ -1,25 +1,33 @@
-// 39, and what refuses a call before its own numbers are looked at.
-use crate::Ledger;
+// What refuses a call before its own numbers are looked at: 31, 30 and 39.
+use crate::CELLS;
+use crate::CREDIT;
+use crate::DROPPED;
+use crate::DROPS;
+use crate::FRAMES;
+use crate::LAST;
+use crate::METERS;
+use crate::OCTETS;
+use crate::PARTITIONS;
+use crate::PORTS;
+use crate::SINCE;
+use crate::UNITS;
 ghost use mathlib.Core.Path.{_≡_};
 ghost use Prim.Native.Nat.{_<_, _≤_, _*_};
-ghost use lib.Dec.{ltb};
-ghost use lib.ListN.{length, getD};
 ghost use Rattle.image.specs.Layout.{imageIn};
 ghost use Rattle.image.specs.Sound.{Sound};
-ghost use Rattle.ledger.specs.Range.{unitsOver, fullOf, creditOver, octetsOff, countsOff, tilesOff, timesOver, outOfRange, standing};
+ghost use Rattle.ledger.specs.Range.{unitsOver, fullOf, creditOver, octetsOff, countsOff, tilesOff, timesOver, outOfRange, unloaded, standing};
 
 // The latest time, 2^48 - 1 µs.
 pub const LATEST: u64 = 281474976710655;
 
 // A partition has more units left than its PART_SPC.
-fn units_over(image: &[u32], units: &[u64]) -> bool
+fn units_over(image: &[u32], row: &[u64; CELLS]) -> bool
     requires { ⌜ Sound (now image) ⌝ }
-    requires { ⌜ 8 ≤ length (now units) ⌝ }
-    ensures { λ r. ⌜ r ≡ unitsOver (imageIn (now (image .entry))) (now (units .entry)) ⌝ }
+    ensures { λ r. ⌜ r ≡ unitsOver (imageIn (now (image .entry))) (now (row .entry)) ⌝ }
 {
     let mut j: usize = 0;
-    while j < 8 {
-        if image::parameters::part_spc(image, j) < units[j] {
+    while j < PARTITIONS {
+        if image::parameters::part_spc(image, j) < row[UNITS + j] {
             return true;
         }
         j += 1;
@@ -39,21 +47,13 @@ pub fn full(image: &[u32], k: usize) -> u64
 }
 
 // A meter holds more than it does when it is full.
-fn credit_over(image: &[u32], credit: &[u64]) -> bool
+fn credit_over(image: &[u32], row: &[u64; CELLS]) -> bool
     requires { ⌜ Sound (now image) ⌝ }
-    requires { ⌜ 45 ≤ length (now credit) ⌝ }
-    ensures { λ r. ⌜ r ≡ creditOver (imageIn (now (image .entry))) (now (credit .entry)) ⌝ }
+    ensures { λ r. ⌜ r ≡ creditOver (imageIn (now (image .entry))) (now (row .entry)) ⌝ }
 {
-    let n = image::counts::count(image, 1);
     let mut k: usize = 0;
-    while k < n {
-        if image::policing::smax(image, k) * 8000000 < credit[k] {
-            return true;
-        }
-        k += 1;
-    }
-    while k < 45 {
-        if 0 < credit[k] {
+    while k < METERS {
+        if full(image, k) < row[CREDIT + k] {
             return true;
         }
         k += 1;
@@ -90,13 +90,17 @@ fn counts_off(frames: u64, drops: u64, octets: u64, dropped: u64) -> bool
     octets < dropped
 }
 
-fn tiles_off<'a>(frames: &'a [u64], drops: &'a [u64], octets: &'a [u64], dropped: &'a [u64]) -> bool
-    requires { ⌜ (5 ≤ length (now frames)) × (5 ≤ length (now drops)) × (5 ≤ length (now octets)) × (5 ≤ length (now dropped)) ⌝ }
-    ensures { λ r. ⌜ r ≡ tilesOff (now (frames .entry)) (now (drops .entry)) (now (octets .entry)) (now (dropped .entry)) ⌝ }
+fn tiles_off(row: &[u64; CELLS]) -> bool
+    ensures { λ r. ⌜ r ≡ tilesOff (now (row .entry)) ⌝ }
 {
     let mut p: usize = 0;
-    while p < 5 {
-        if counts_off(frames[p], drops[p], octets[p], dropped[p]) {
+    while p < PORTS {
+        if counts_off(
+            row[FRAMES + p],
+            row[DROPS + p],
+            row[OCTETS + p],
+            row[DROPPED + p],
+        ) {
             return true;
         }
         p += 1;
@@ -105,13 +109,12 @@ fn tiles_off<'a>(frames: &'a [u64], drops: &'a [u64], octets: &'a [u64], dropped
 }
 
 // A meter was set after the last time.
-fn times_over(since: &[u64], last: u64) -> bool
-    requires { ⌜ 45 ≤ length (now since) ⌝ }
-    ensures { λ r. ⌜ r ≡ timesOver (now (since .entry)) last ⌝ }
+fn times_over(row: &[u64; CELLS]) -> bool
+    ensures { λ r. ⌜ r ≡ timesOver (now (row .entry)) ⌝ }
 {
     let mut k: usize = 0;
-    while k < 45 {
-        if last < since[k] {
+    while k < METERS {
+        if row[LAST] < row[SINCE + k] {
             return true;
         }
         k += 1;
@@ -119,60 +122,29 @@ fn times_over(since: &[u64], last: u64) -> bool
     false
 }
 
-// 39, over a ledger's parts where they lie: in a `Ledger`, or among numbers that are lent.
-pub fn parts_over<'a>(
-    image: &[u32],
-    units: &'a [u64],
-    credit: &'a [u64],
-    since: &'a [u64],
-    frames: &'a [u64],
-    drops: &'a [u64],
-    octets: &'a [u64],
-    dropped: &'a [u64],
-    last: u64,
-) -> bool
-    requires { ⌜ Sound (now image) ⌝ }
-    requires { ⌜ (8 ≤ length (now units)) × (45 ≤ length (now credit)) × (45 ≤ length (now since)) ⌝ }
-    requires { ⌜ (5 ≤ length (now frames)) × (5 ≤ length (now drops)) × (5 ≤ length (now octets)) × (5 ≤ length (now dropped)) ⌝ }
-    ensures { λ r. ⌜ r ≡ outOfRange (imageIn (now (image .entry))) (record { units = now (units .entry); credit = now (credit .entry); since = now (since .entry); frames = now (frames .entry); drops = now (drops .entry); octets = now (octets .entry); dropped = now (dropped .entry); last = last }) ⌝ }
-{
-    if units_over(image, units) {
-        return true;
-    }
-    if credit_over(image, credit) {
-        return true;
-    }
-    if tiles_off(frames, drops, octets, dropped) {
-        return true;
-    }
-    if times_over(since, last) {
-        return true;
-    }
-    LATEST < last
-}
-
 // 39
-pub fn out_of_range(image: &[u32], ledger: Ledger) -> bool
+pub fn out_of_range(image: &[u32], row: &[u64; CELLS]) -> bool
     requires { ⌜ Sound (now image) ⌝ }
-    ensures { λ r. ⌜ r ≡ outOfRange (imageIn (now (image .entry))) ledger ⌝ }
+    ensures { λ r. ⌜ r ≡ outOfRange (imageIn (now (image .entry))) (now (row .entry)) ⌝ }
 {
-    let g = ledger;
-    parts_over(
-        image,
-        &g.units,
-        &g.credit,
-        &g.since,
-        &g.frames,
-        &g.drops,
-        &g.octets,
-        &g.dropped,
-        g.last,
-    )
+    if units_over(image, row) {
+        return true;
+    }
+    if credit_over(image, row) {
+        return true;
+    }
+    if tiles_off(row) {
+        return true;
+    }
+    if times_over(row) {
+        return true;
+    }
+    LATEST < row[LAST]
 }
 
-// 31, 30, 39; 0 where none of them refuses.
-pub fn standing(image: &[u32], ledger: Ledger) -> u32
-    ensures { λ r. ⌜ r ≡ standing (now (image .entry)) ledger ⌝ }
+// 31, 30; 0 where neither refuses.
+pub fn unloaded(image: &[u32]) -> u32
+    ensures { λ r. ⌜ r ≡ unloaded (now (image .entry)) ⌝ }
 {
     if image::counts::too_short(image) {
         return 31;
@@ -180,7 +152,18 @@ pub fn standing(image: &[u32], ledger: Ledger) -> u32
     if image::counts::not_loaded(image) {
         return 30;
     }
-    if out_of_range(image, ledger) {
+    0
+}
+
+// 31, 30, 39; 0 where none of them refuses.
+pub fn standing(image: &[u32], row: &[u64; CELLS]) -> u32
+    ensures { λ r. ⌜ r ≡ standing (now (image .entry)) (now (row .entry)) ⌝ }
+{
+    let refused = unloaded(image);
+    if refused != 0 {
+        return refused;
+    }
+    if out_of_range(image, row) {
         return 39;
     }
     0

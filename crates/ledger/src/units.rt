@@ -1,74 +1,55 @@
 // A release of a frame's units.
 use crate::Answer;
-use crate::Ledger;
-use crate::Outcome;
+use crate::CELLS;
+use crate::UNITS;
 use crate::range::standing;
 ghost use mathlib.Core.Path.{_≡_};
 ghost use Prim.Native.Nat.{_<_};
-ghost use lib.Dec.{leb};
-ghost use lib.ListN.{getD};
 ghost use Rattle.image.specs.Layout.{imageIn};
-ghost use Rattle.image.specs.Fields.{partSpc};
 ghost use Rattle.image.specs.Sound.{Sound};
-ghost use Rattle.ledger.specs.Release.{unreleased, releaseRefusal, released, Releasable, Released};
-
-// Is nothing of the partition out?
-fn all_in(image: &[u32], partition: usize, left: u64) -> bool
-    requires { ⌜ Sound (now image) ⌝ }
-    requires { ⌜ partition < 8 ⌝ }
-    ensures { λ r. ⌜ r ≡ leb (partSpc (imageIn (now (image .entry))) partition) left ⌝ }
-{
-    image::parameters::part_spc(image, partition) <= left
-}
+ghost use Rattle.ledger.specs.Release.{unreleased, releaseRefusal, givenTo, HasRoom, Released};
 
 // 36, 37; 0 where neither refuses.
-fn unreleased(image: &[u32], ledger: Ledger, partition: usize) -> u32
+fn unreleased(image: &[u32], row: &[u64; CELLS], partition: usize) -> u32
     requires { ⌜ Sound (now image) ⌝ }
-    ensures { λ r. ⌜ r ≡ unreleased (imageIn (now (image .entry))) ledger partition ⌝ }
+    ensures { λ r. ⌜ r ≡ unreleased (imageIn (now (image .entry))) (now (row .entry)) partition ⌝ }
 {
     if 7 < partition {
         return 36;
     }
-    if all_in(image, partition, ledger.units[partition]) {
+    if image::parameters::part_spc(image, partition) <= row[UNITS + partition] {
         return 37;
     }
     0
 }
 
 // What refuses a release: 31, 30, 39, 36, 37; 0 where nothing does.
-fn refusal(image: &[u32], ledger: Ledger, partition: usize) -> u32
-    ensures { λ r. ⌜ r ≡ releaseRefusal (now (image .entry)) ledger partition ⌝ }
+fn refusal(image: &[u32], row: &[u64; CELLS], partition: usize) -> u32
+    ensures { λ r. ⌜ r ≡ releaseRefusal (now (image .entry)) (now (row .entry)) partition ⌝ }
 {
-    let refused = standing(image, ledger);
+    let refused = standing(image, row);
     if refused != 0 {
         return refused;
     }
-    unreleased(image, ledger, partition)
+    unreleased(image, row, partition)
 }
 
 // One unit more is left.
-fn given_back(ledger: Ledger, partition: usize) -> Ledger
-    requires { ⌜ Releasable ledger partition ⌝ }
-    ensures { λ r. ⌜ r ≡ released ledger partition ⌝ }
+fn give_back(row: &mut [u64; CELLS], partition: usize)
+    requires { ⌜ HasRoom (now row) partition ⌝ }
+    ensures { λ r. ⌜ now (row .exit) ≡ givenTo (now (row .entry)) partition ⌝ }
 {
-    let mut g = ledger;
-    g.units[partition] = g.units[partition] + 1;
-    g
+    row[UNITS + partition] = row[UNITS + partition] + 1;
 }
 
 // One unit of a partition comes back.
-pub fn release(image: &[u32], ledger: Ledger, partition: usize) -> Outcome
-    ensures { λ r. ⌜ Released (now (image .entry)) ledger partition r ⌝ }
+pub fn release(image: &[u32], row: &mut [u64; CELLS], partition: usize) -> Answer
+    ensures { λ r. ⌜ Released (now (image .entry)) (now (row .entry)) partition r (now (row .exit)) ⌝ }
 {
-    let refused = refusal(image, ledger, partition);
+    let refused = refusal(image, row, partition);
     if refused != 0 {
-        return Outcome {
-            answer: Answer::Refused(refused),
-            ledger,
-        };
+        return Answer::Refused(refused);
     }
-    Outcome {
-        answer: Answer::Done,
-        ledger: given_back(ledger, partition),
-    }
+    give_back(row, partition);
+    Answer::Done
 }

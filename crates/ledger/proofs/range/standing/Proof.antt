@@ -1,8 +1,8 @@
--- `ledger::range::standing`: 31, 30, 39, in this order.
+-- `ledger::range::standing`: 31 and 30, then 39.
+use mathlib.Core.Path.{refl}
 use borrow.Author.Needs.{needs}
-use denote.Ref.{now}
 use Rattle.laws.specs.Chain.{flags}
-use Rattle.ledger.specs.Laws.{long-enough, loaded}
+use Rattle.ledger.specs.Laws.{at-zero, not-zero, loaded-as}
 use Rattle.ledger.specs.Range.{standing}
 use Rattle.ledger.proofs.range.standing.Statement.{statement}
 use Rattle.ledger.proofs.range.standing.Tie as tie
@@ -13,9 +13,7 @@ standing-spec =
     tie.close
     (tie.spec
     (λ c κs. search needs)
-    (λ c. search flags depth 40)
-    (λ c κs. long-enough (now (c .before .before .before .args .image)) _ (c .before .too-short .ensures) (c .if1 .left))
-    (λ c. search flags depth 40)
-    (λ c κs. loaded (now (c .before .before .before .before .before .args .image)) _ _ (c .before .before .before .too-short .ensures) (c .before .before .if1 .left) (c .before .not-loaded .ensures) (c .if2 .left))
-    (λ c. search flags depth 40)
-    (λ c. search flags depth 40))
+    (λ c. search (needs, not-zero))
+    (λ c κs. search (needs, loaded-as))
+    (λ c. search (needs, at-zero, flags) depth 40)
+    (λ c. search (needs, at-zero, flags) depth 40))

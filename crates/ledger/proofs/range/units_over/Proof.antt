@@ -5,32 +5,21 @@ use mathlib.Core.List.{List}
 use Prim.Native.Nat.{ℕ, _-_, _≤_, _<_}
 use native.Mathlib.Omega.{arith}
 use lib.Dec.{ltb}
-use lib.ListN.{getD}
 use borrow.Author.Needs.{needs}
 use borrow.Author.Tests.{lt-ltb, le-ltb}
-use denote.Ref.{now}
 use Rattle.laws.specs.Chain.{of-lt, le-of}
 use Rattle.laws.specs.Scan.{some-below, some-none, some-not, some-found, some-end}
 use Rattle.image.specs.Layout.{imageIn}
 use Rattle.image.specs.Fields.{partSpc}
+use Rattle.ledger.specs.Row.{units, cell}
 use Rattle.ledger.proofs.range.units_over.Statement.{statement}
 use Rattle.ledger.proofs.range.units_over.Tie as tie
 
 abbrev Inv-loop : tie.InvT-loop
-Inv-loop image units j₀ j = (j ≤ 8) × (some-below j (λ i. ltb (partSpc (imageIn image) i) (getD units i 0)) ≡ false)
+Inv-loop image row j₀ j = (j ≤ 8) × (some-below j (λ i. ltb (partSpc (imageIn image) i) (cell row units i)) ≡ false)
 
 abbrev μ-loop : tie.MeasureT-loop
-μ-loop image units j₀ j = 8 - j
-
-returns : tie.Need-returns Inv-loop μ-loop
-returns c =
-    let l = c .before .before .before .before .loop in
-    sym (some-found 8 (l .j) _ (omega arith) (lt-ltb _ _ (of-lt _ _ _ (c .before .before .part-spc .ensures .0) (c .if1 .taken))))
-
-loop-again : tie.Need-loop-again Inv-loop μ-loop
-loop-again c =
-    let l = c .before .before .before .before .loop in
-    (omega arith, some-not (l .j) _ (l .inv .1) (le-ltb _ _ (le-of _ _ _ (c .before .before .part-spc .ensures .0) (c .if1 .left))))
+μ-loop image row j₀ j = 8 - j
 
 pub units-over-spec : {M : Type 1} → statement M
 units-over-spec =
@@ -42,8 +31,9 @@ units-over-spec =
     (λ c κs. search needs)
     (λ c. search needs)
     (λ c. search needs)
-    returns
+    (λ c. search needs)
+    (λ c. sym (some-found 8 (c .before .before .before .before .loop .j) _ (omega arith) (lt-ltb _ _ (of-lt _ _ _ (c .before .before .part-spc .ensures .0) (c .if1 .taken)))))
     (λ c. search needs)
     (λ c. search needs)
-    loop-again
+    (λ c. let l = c .before .before .before .before .loop in (omega arith, some-not (l .j) _ (l .inv .1) (le-ltb _ _ (le-of _ _ _ (c .before .before .part-spc .ensures .0) (c .if1 .left)))))
     (λ c. some-end 8 8 (c .before .loop .j) _ refl (c .loop-test .left) (c .before .loop .inv .0) (c .before .loop .inv .1)))

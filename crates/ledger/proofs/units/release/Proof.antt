@@ -1,10 +1,6 @@
--- `ledger::units::release`: refused with the ledger as it was, or one unit more.
+-- `ledger::units::release`: refused with the row as it was, or one unit more.
 use borrow.Author.Needs.{needs}
-use mathlib.Core.Path.{_≡_, refl, ap, sym, _∙_}
-use denote.Ref.{now}
-use Rattle.ledger.specs.declared.Answer.the-variants.{Refused, Done}
-use Rattle.ledger.specs.Laws.{at-zero, not-zero}
-use Rattle.ledger.specs.Release.{releasable}
+use Rattle.ledger.specs.Release.{has-room, not-released, is-released}
 use Rattle.ledger.proofs.units.release.Statement.{statement}
 use Rattle.ledger.proofs.units.release.Tie as tie
 
@@ -13,18 +9,6 @@ release-spec =
     tie.close
     (tie.spec
     (λ c κs. search needs)
-    (λ c.
-    let e = c .before .refusal .ensures in
-    record {
-      answer = not-zero _ _ _ _ _ e (c .if1 .taken) (ap Refused e);
-      number = e;
-      ledger = not-zero _ _ _ _ _ e (c .if1 .taken) refl;
-    })
-    (λ c κs. releasable (now (c .before .before .before .args .image)) _ _ (sym (c .before .refusal .ensures) ∙ c .if1 .left))
-    (λ c.
-    let e = c .before .before .refusal .ensures in
-    record {
-      answer = at-zero _ _ _ _ _ e (c .before .if1 .left) refl;
-      number = sym (c .before .if1 .left) ∙ e;
-      ledger = at-zero _ _ _ _ _ e (c .before .if1 .left) (c .given-back .ensures);
-    }))
+    (λ c. search (needs, not-released))
+    (λ c κs. search (needs, has-room))
+    (λ c. search (needs, is-released)))

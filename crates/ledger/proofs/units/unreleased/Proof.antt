@@ -1,6 +1,7 @@
 -- `ledger::units::unreleased`: 36, then 37.
+use mathlib.Core.Path.{refl}
 use borrow.Author.Needs.{needs}
-use Rattle.laws.specs.Chain.{chain}
+use Rattle.laws.specs.Chain.{chain, carried, hit-le, pass-le, pass-lt}
 use Rattle.ledger.proofs.units.unreleased.Statement.{statement}
 use Rattle.ledger.proofs.units.unreleased.Tie as tie
 
@@ -9,8 +10,9 @@ unreleased-spec =
     tie.close
     (tie.spec
     (λ c. search (needs, chain) depth 40)
-    (λ c. search needs)
-    (λ c. search needs)
     (λ c κs. search needs)
-    (λ c. search (needs, chain) depth 40)
-    (λ c. search (needs, chain) depth 40))
+    (λ c. search needs)
+    (λ c. search needs)
+    (λ c. search needs)
+    (λ c. search (needs, chain, carried) depth 40)
+    (λ c. search (needs, chain, carried) depth 40))
