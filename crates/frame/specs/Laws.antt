@@ -11,13 +11,13 @@ use borrow.Author.Tests.{ltb-false}
 use Rattle.image.specs.Fields.{vlanprio, portVlanid, drpuntag, ingress}
 use Rattle.frame.specs.declared.Tag.{Tag}
 use Rattle.frame.specs.declared.Tag.the-variants.{Untagged, Tagged}
-use Rattle.frame.specs.declared.Entered.{Entered}
-use Rattle.frame.specs.declared.Entered.the-variants.{Dropped, Taken}
+use Rattle.frame.specs.declared.Intake.{Intake}
+use Rattle.frame.specs.declared.Intake.the-variants.{Dropped, Taken}
 use Rattle.frame.specs.Bytes.{octetsOf, pairAt, tagOf}
-use Rattle.frame.specs.Enter.{untaggedOf, byTag, enteredOf}
+use Rattle.frame.specs.Intake.{untaggedOf, byTag, intakeOf}
 
 -- a frame that is taken in has sixty bytes and a priority of three bits
-abbrev pub Whole : List ℕ → Entered → Type 0
+abbrev pub Whole : List ℕ → Intake → Type 0
 Whole frame (Dropped n) = Unit {0}
 Whole frame (Taken vlan priority tagged) = (60 ≤ length frame) × (priority < 8)
 
@@ -45,8 +45,8 @@ by-tag image port frame Untagged h n = by (not (eqb (drpuntag image port) 0))
     by false = (h, eight _)
 by-tag image port frame (Tagged at priority vlan) h n = (h, n)
 
-pub whole : (image : List ℕ) (port : ℕ) (frame : List ℕ) → Whole frame (enteredOf image port frame)
-unfolding enteredOf
+pub whole : (image : List ℕ) (port : ℕ) (frame : List ℕ) → Whole frame (intakeOf image port frame)
+unfolding intakeOf
 whole image port frame = first (ltb (octetsOf frame) 64) refl
   where
     second : 60 ≤ length frame → (t : Bool) → Whole frame (cond t (Dropped 2) (byTag image port (tagOf frame)))
@@ -62,13 +62,13 @@ whole image port frame = first (ltb (octetsOf frame) 64) refl
     first false e = second (sixty (length frame) (ltb-false (octetsOf frame) 64 (sym e))) (eqb (ingress image port) 0)
 
 -- (k) L 63 drops, 64 goes on
-pub row-k-63 : (image : List ℕ) (port : ℕ) (frame : List ℕ) → octetsOf frame ≡ 63 → enteredOf image port frame ≡ Dropped 1
-unfolding enteredOf
+pub row-k-63 : (image : List ℕ) (port : ℕ) (frame : List ℕ) → octetsOf frame ≡ 63 → intakeOf image port frame ≡ Dropped 1
+unfolding intakeOf
 row-k-63 image port frame e = rw e refl
 
 pub row-k-64 : (image : List ℕ) (port : ℕ) (frame : List ℕ) → octetsOf frame ≡ 64
-    → enteredOf image port frame ≡ cond (eqb (ingress image port) 0) (Dropped 2) (byTag image port (tagOf frame))
-unfolding enteredOf
+    → intakeOf image port frame ≡ cond (eqb (ingress image port) 0) (Dropped 2) (byTag image port (tagOf frame))
+unfolding intakeOf
 row-k-64 image port frame e = rw e refl
 
 -- L and the frame's bytes

@@ -5,7 +5,7 @@ ghost use lib.ListN.{length, getD};
 ghost use Rattle.image.specs.Layout.{imageIn};
 ghost use Rattle.image.specs.Sound.{Sound};
 ghost use Rattle.frame.specs.Bytes.{macAt, pairAt, tagOf};
-ghost use Rattle.frame.specs.Enter.{vlanOr, untaggedOf, byTag, enteredOf};
+ghost use Rattle.frame.specs.Intake.{vlanOr, untaggedOf, byTag, intakeOf};
 
 // The one broadcast address.
 pub const BROADCAST: u64 = 0xFFFFFFFFFFFF;
@@ -23,7 +23,7 @@ pub enum Tag {
 }
 
 // Steps 1 to 3: dropped with the step's number, or taken in with its VLAN and priority.
-pub enum Entered {
+pub enum Intake {
     Dropped(u32),
     Taken {
         vlan: u64,
@@ -87,15 +87,15 @@ fn vlan_or(image: &[u32], port: usize, vlan: u64) -> u64
 }
 
 // Step 3 of an untagged frame.
-fn untagged(image: &[u32], port: usize) -> Entered
+fn untagged(image: &[u32], port: usize) -> Intake
     requires { ⌜ Sound (now image) ⌝ }
     requires { ⌜ port < 5 ⌝ }
     ensures { λ r. ⌜ r ≡ untaggedOf (imageIn (now (image .entry))) port ⌝ }
 {
     if image::mac::drpuntag(image, port) != 0 {
-        return Entered::Dropped(3);
+        return Intake::Dropped(3);
     }
-    Entered::Taken {
+    Intake::Taken {
         vlan: image::mac::vlanid(image, port),
         priority: image::mac::vlanprio(image, port),
         tagged: false,
@@ -103,7 +103,7 @@ fn untagged(image: &[u32], port: usize) -> Entered
 }
 
 // Step 3.
-fn by_tag(image: &[u32], port: usize, tag: Tag) -> Entered
+fn by_tag(image: &[u32], port: usize, tag: Tag) -> Intake
     requires { ⌜ Sound (now image) ⌝ }
     requires { ⌜ port < 5 ⌝ }
     ensures { λ r. ⌜ r ≡ byTag (imageIn (now (image .entry))) port tag ⌝ }
@@ -114,7 +114,7 @@ fn by_tag(image: &[u32], port: usize, tag: Tag) -> Entered
             at: _,
             priority,
             vlan,
-        } => Entered::Taken {
+        } => Intake::Taken {
             vlan: vlan_or(image, port, vlan),
             priority,
             tagged: true,
@@ -123,16 +123,16 @@ fn by_tag(image: &[u32], port: usize, tag: Tag) -> Entered
 }
 
 // Steps 1 to 3.
-pub fn enter(image: &[u32], port: usize, frame: &[u8]) -> Entered
+pub fn take_in(image: &[u32], port: usize, frame: &[u8]) -> Intake
     requires { ⌜ Sound (now image) ⌝ }
     requires { ⌜ port < 5 ⌝ }
-    ensures { λ r. ⌜ r ≡ enteredOf (imageIn (now (image .entry))) port (now (frame .entry)) ⌝ }
+    ensures { λ r. ⌜ r ≡ intakeOf (imageIn (now (image .entry))) port (now (frame .entry)) ⌝ }
 {
     if frame.len() < LEAST_BYTES {
-        return Entered::Dropped(1);
+        return Intake::Dropped(1);
     }
     if image::mac::ingress(image, port) == 0 {
-        return Entered::Dropped(2);
+        return Intake::Dropped(2);
     }
     by_tag(image, port, tag_of(frame))
 }

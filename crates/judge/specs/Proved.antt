@@ -1,63 +1,68 @@
--- What pins a judgement: a refusal changes nothing, every verdict notes the time, and drops 1 to 8 touch neither meters nor units.
+-- What pins a judgement: every verdict notes the time, and noting it touches neither meters nor units.
 use mathlib.Core.Path.{_≡_, refl, sym, _∙_, ap}
-use mathlib.Core.Bool.{Bool, true, false, cond}
+use mathlib.Core.Bool.{Bool, cond}
 use mathlib.Core.List.{List}
-use Prim.Native.Nat.{ℕ, _+_}
-use lib.Dec.{eqb}
-use lib.ListN.{getD, set}
+use Prim.Native.Nat.{ℕ, _+_, _<_}
+use lib.Dec.{eqb, lit≤}
+use lib.ListN.{length, length-set}
 use borrow.Author.Tests.{ne-eqb}
 use Rattle.image.specs.Layout.{imageIn}
 use Rattle.image.specs.Loaded.{tooShort}
+use Rattle.ledger.specs.Row.{units, credit, since, frames, octets, last, many, cellCount, cell}
 use Rattle.ledger.specs.Range.{standing}
+use Rattle.ledger.specs.Laws.{cells}
 use Rattle.ledger.specs.Proved.{same-standing}
-use Rattle.ledger.specs.declared.Ledger.{Ledger}
-use Rattle.passage.specs.Passage.{passageOf}
-use Rattle.spend.specs.declared.Counts.{Counts}
 use Rattle.spend.specs.Spend.{countedOf}
-use Rattle.judge.specs.declared.Verdict.the-variants.{Refused}
-use Rattle.judge.specs.declared.Judged.{Judged}
+use Rattle.frame.specs.Bytes.{octetsOf}
+use Rattle.plan.specs.declared.Course.{Course}
+use Rattle.judge.specs.declared.settle.Verdict.the-variants.{Refused}
 use Rattle.judge.specs.Refusal.{unjudged, refusalOf}
-use Rattle.judge.specs.Judge.{judged, noted, meterOf, byPassage, judgeOf}
+use Rattle.judge.specs.Settle.{meterOf, heldAt, Judged, judged, carriedOut}
+use Rattle.judge.specs.Judge.{noted, planFor, notedOf, judgeOf}
+
+-- "every verdict sets the last time and the tile"
+module _ (g : List ℕ) (port time l : ℕ) (drop : Bool) (all : length g ≡ cellCount) (inside : port < many frames) where
+  pub time-noted : cell (noted g port time l drop) last 0 ≡ time
+  unfolding noted
+  time-noted = let only : 0 < many last = lit≤ tt in simp (cells, all)
+
+  pub frame-counted : cell (noted g port time l drop) frames port ≡ cell g frames port + 1
+  unfolding noted countedOf
+  frame-counted = let only : 0 < many last = lit≤ tt in simp (cells, all)
+
+  pub octets-counted : cell (noted g port time l drop) octets port ≡ cell g octets port + l
+  unfolding noted countedOf
+  octets-counted = let only : 0 < many last = lit≤ tt in simp (cells, all)
+
+-- what notes a verdict leaves meters and units as they are
+module _ (g : List ℕ) (port time l : ℕ) (drop : Bool) (inside : port < many frames) where
+  pub credit-kept : (m : ℕ) → m < many credit → cell (noted g port time l drop) credit m ≡ cell g credit m
+  unfolding noted
+  credit-kept m h = let only : 0 < many last = lit≤ tt in simp cells
+
+  pub since-kept : (m : ℕ) → m < many since → cell (noted g port time l drop) since m ≡ cell g since m
+  unfolding noted
+  since-kept m h = let only : 0 < many last = lit≤ tt in simp cells
+
+  pub units-kept : (j : ℕ) → j < many units → cell (noted g port time l drop) units j ≡ cell g units j
+  unfolding noted
+  units-kept j h = let only : 0 < many last = lit≤ tt in simp cells
+
+-- elapsed is since the meter's own time, not the last time
+pub own-time : (g : List ℕ) (w : Course) → meterOf w (heldAt g w) .since ≡ cell g since (w .meter)
+own-time g w = refl
 
 -- "call refusals .. change nothing"
-pub refused-unchanged : (buffer : List ℕ) (g : Ledger) (port time : ℕ) (frame : List ℕ) → (refusalOf buffer g port time frame ≡ 0 → ⊥)
+pub refused-unchanged : (buffer g : List ℕ) (port time : ℕ) (frame : List ℕ) → (refusalOf buffer g port time frame ≡ 0 → ⊥)
     → judgeOf buffer g port time frame ≡ judged (Refused (refusalOf buffer g port time frame)) g
 unfolding judgeOf
 refused-unchanged buffer g port time frame h =
     ap
-    (λ (t : Bool). cond t (byPassage (imageIn buffer) g port time frame (passageOf (imageIn buffer) port frame))
+    (λ (t : Bool). cond t (notedOf port time (octetsOf frame) (carriedOut g time (octetsOf frame) (planFor (imageIn buffer) port frame)))
     (judged (Refused (refusalOf buffer g port time frame)) g)) (ne-eqb _ 0 h)
 
--- "every verdict sets the last time and the tile"
-pub time-noted : (g : Ledger) (port time octets : ℕ) (dropped : Bool) → noted g port time octets dropped .last ≡ time
-unfolding noted
-time-noted g port time octets dropped = refl
-
-pub frame-counted : (g : Ledger) (port time octets : ℕ) (dropped : Bool)
-    → noted g port time octets dropped .frames ≡ set (g .frames) port (getD (g .frames) port 0 + 1)
-unfolding noted countedOf
-frame-counted g port time octets dropped = refl
-
-pub octets-counted : (g : Ledger) (port time octets : ℕ) (dropped : Bool)
-    → noted g port time octets dropped .octets ≡ set (g .octets) port (getD (g .octets) port 0 + octets)
-unfolding noted countedOf
-octets-counted g port time octets dropped = refl
-
--- what notes a verdict leaves meters and units as they are
-pub credit-kept : (g : Ledger) (port time octets : ℕ) (dropped : Bool) → noted g port time octets dropped .credit ≡ g .credit
-unfolding noted
-credit-kept g port time octets dropped = refl
-
-pub units-kept : (g : Ledger) (port time octets : ℕ) (dropped : Bool) → noted g port time octets dropped .units ≡ g .units
-unfolding noted
-units-kept g port time octets dropped = refl
-
--- elapsed is since the meter's own time, not the last time
-pub own-time : (image : List ℕ) (g : Ledger) (m : ℕ) → meterOf image g m .since ≡ getD (g .since) m 0
-own-time image g m = refl
-
 -- a buffer's rest has no part in it: two buffers that are both long enough, or both too short, with one image, give one outcome
-pub same-judgement : (a b : List ℕ) → tooShort a ≡ tooShort b → imageIn a ≡ imageIn b → (g : Ledger) (port time : ℕ) (frame : List ℕ)
+pub same-judgement : (a b : List ℕ) → tooShort a ≡ tooShort b → imageIn a ≡ imageIn b → (g : List ℕ) (port time : ℕ) (frame : List ℕ)
     → judgeOf a g port time frame ≡ judgeOf b g port time frame
 unfolding judgeOf refusalOf
 same-judgement a b long image g port time frame =
@@ -65,4 +70,4 @@ same-judgement a b long image g port time frame =
     ∙ ap (λ (i : List ℕ). told i (cond (eqb (standing b g) 0) (unjudged g port time frame) (standing b g))) image
   where
     told : List ℕ → ℕ → Judged
-    told i n = cond (eqb n 0) (byPassage i g port time frame (passageOf i port frame)) (judged (Refused n) g)
+    told i n = cond (eqb n 0) (notedOf port time (octetsOf frame) (carriedOut g time (octetsOf frame) (planFor i port frame))) (judged (Refused n) g)

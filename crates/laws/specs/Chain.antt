@@ -2,7 +2,8 @@
 -- one `hit` at the test that held and a `pass` at each test before it. `search (needs, chain)` finds them.
 use mathlib.Core.Path.{_≡_, refl, sym, _∙_, ap, subst}
 use mathlib.Core.Bool.{Bool, true, false, cond, not, true≢false}
-use Prim.Native.Nat.{ℕ, _<_, _≤_}
+use Prim.Native.Nat.{ℕ, suc, _<_, _≤_}
+use native.Mathlib.Nat.{suc-ne-zero}
 use lib.Dec.{ltb, leb, eqb}
 use borrow.Author.Tests.{lt-ltb, le-ltb, le-leb, lt-leb, eq-eqb, ne-eqb}
 
@@ -60,6 +61,23 @@ pub none-rest : (b y : Bool) → cond b true y ≡ false → y ≡ false
 none-rest true y e = absurd (true≢false e)
 none-rest false y e = e
 
+-- A number r that a call handed over, equal to n, was tested against 0: what a definition says that asks n first.
+module _ {A : Type 0} where
+  pub at-zero : (r n : ℕ) (v x y : A) → r ≡ n → r ≡ 0 → v ≡ x → v ≡ cond (eqb n 0) x y
+  at-zero r n v x y e z p = p ∙ ap (λ (t : Bool). cond t x y) (sym (eq-eqb n 0 (sym e ∙ z)))
+
+  pub not-zero : (r n : ℕ) (v x y : A) → r ≡ n → (r ≡ 0 → ⊥) → v ≡ y → v ≡ cond (eqb n 0) x y
+  not-zero r n v x y e z p = p ∙ ap (λ (t : Bool). cond t x y) (sym (ne-eqb n 0 (λ q. z (e ∙ q))))
+
+-- a chain of numbers that comes to 0: its first test failed, and the rest comes to 0
+pub zero-first : (t : Bool) (n y : ℕ) → cond t (suc n) y ≡ 0 → t ≡ false
+zero-first true n y e = absurd (suc-ne-zero n e)
+zero-first false n y e = refl
+
+pub zero-rest : (t : Bool) (n y : ℕ) → cond t (suc n) y ≡ 0 → y ≡ 0
+zero-rest true n y e = absurd (suc-ne-zero n e)
+zero-rest false n y e = e
+
 -- A test of a number r that a call handed over is a test of what the call says r is.
 pub lt-of : (a b r : ℕ) → r ≡ b → a < r → a < b
 lt-of a b r e h = subst (λ (k : ℕ). a < k) e h
@@ -78,6 +96,13 @@ of-eq a b r e h = sym e ∙ h
 
 pub of-ne : (a b r : ℕ) → r ≡ b → (r ≡ a → ⊥) → b ≡ a → ⊥
 of-ne a b r e h q = h (e ∙ q)
+
+-- What a call answered, r, is what its definition says, s, and was matched as k: so what is said by cases of s is said of k, and what s has, k has.
+pub in-case : {A B : Type 0} (f : A → B) (r s k : A) → r ≡ s → r ≡ k → f k ≡ f s
+in-case f r s k e h = ap f (sym h ∙ e)
+
+pub carry : {A : Type 0} (P : A → Type 0) (r s k : A) → r ≡ s → r ≡ k → P s → P k
+carry P r s k e h p = subst P (sym e ∙ h) p
 
 -- the laws of a chain whose tests are all flags that calls handed over: fewer ways to try, so a longer chain
 pub ruleset flags = (hit, pass)

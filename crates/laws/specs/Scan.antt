@@ -250,3 +250,39 @@ counting-end f size i sum n m marks c a b e =
     not-not : (t : Bool) → not (not t) ≡ t
     not-not true = refl
     not-not false = refl
+
+-- a scan that finds none: none of its indices passes
+pub none-at : (n i : ℕ) (p : ℕ → Bool) → some-below n p ≡ false → i < n → p i ≡ false
+unfolding some-below
+none-at zero i p e l = absurd (not-suc-le-zero l)
+none-at (suc n) i p e l =
+    ⊎-elim (λ q. subst (λ (k : ℕ). p k ≡ false) (sym q) (right (some-below n p) (p n) e)) (λ lt. none-at n i p (left (some-below n p) (p n) e) lt)
+    (eq-or-lt-of-le (le-of-suc-le-suc l))
+  where
+    left : (a b : Bool) → (a || b) ≡ false → a ≡ false
+    left true b q = q
+    left false b q = refl
+
+    right : (a b : Bool) → (a || b) ≡ false → b ≡ false
+    right true b q = absurd (mathlib.Core.Bool.true≢false q)
+    right false b q = q
+
+-- no index passes
+pub none-all : (n : ℕ) (p : ℕ → Bool) → ((i : ℕ) → i < n → p i ≡ false) → some-below n p ≡ false
+none-all zero p h = some-none p
+none-all (suc n) p h =
+    subst (λ (k : ℕ). some-below k p ≡ false) (add-one n) (some-not n p (none-all n p (λ i l. h i (le-step l))) (h n (le-refl (suc n))))
+
+-- the first of n is at most n
+pub first-within : (n : ℕ) (p : ℕ → Bool) → first n p ≤ n
+unfolding first
+first-within zero p = le-refl zero
+first-within (suc n) p = by (ltb (first n p) n) refl
+  where
+    last : (t : Bool) → cond t n (suc n) ≤ suc n
+    last true = le-step (le-refl n)
+    last false = le-refl (suc n)
+
+    by : (t : Bool) → t ≡ ltb (first n p) n → cond t (first n p) (cond (p n) n (suc n)) ≤ suc n
+    by true e = le-step (le-of-lt (ltb-true (first n p) n (sym e)))
+    by false e = last (p n)

@@ -9,13 +9,13 @@ use native.Mathlib.Omega.{arith}
 use lib.Dec.{ltb, eqb}
 use lib.ListN.{length, take, set, replicate, length-set}
 use lib.Seq.{take-all, take-suc-set}
+use Rattle.laws.specs.Chain.{at-zero, not-zero}
 use Rattle.image.specs.Layout.{imageIn}
 use Rattle.image.specs.Fields.{partSpc}
 use Rattle.ledger.specs.declared.Answer.{Answer}
 use Rattle.ledger.specs.declared.Answer.the-variants.{Refused, Done}
 use Rattle.ledger.specs.Row.{credit, since, last, start, cellCount, put}
 use Rattle.ledger.specs.Range.{latest, unitsOver, fullOf, creditOver, tilesOff, timesOver, outOfRange, unloaded}
-use Rattle.ledger.specs.Laws.{at-zero, not-zero}
 use Rattle.ledger.specs.Answers.{answerOf, numberOf}
 
 -- f of each index below n, in order

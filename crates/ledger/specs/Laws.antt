@@ -12,8 +12,8 @@ use lib.Dec.{ltb, leb, eqb}
 use lib.ListN.{length, getD, set, length-set}
 use lib.Seq.{getD-set-same, getD-set-other}
 use borrow.Author.Tests.{ltb-false, leb-true, eqb-true, eqb-false, eq-eqb, ne-eqb}
-use Rattle.laws.specs.Chain.{none-first, none-rest}
-use Rattle.laws.specs.Scan.{some-below}
+use Rattle.laws.specs.Chain.{none-first, none-rest, zero-first, zero-rest}
+use Rattle.laws.specs.Scan.{none-at}
 use Rattle.image.specs.Layout.{imageWords, imageIn, countOf}
 use Rattle.image.specs.Fields.{partSpc, smax}
 use Rattle.image.specs.Loaded.{tooShort, notLoaded}
@@ -57,39 +57,6 @@ pub ruleset cells = (other-part, read-back, length-set)
 -- a test of a flag that a call handed over
 pub long-enough : (buffer : List ℕ) (r : Bool) → r ≡ tooShort buffer → r ≡ false → imageWords ≤ length buffer
 long-enough buffer r e h = ltb-false (length buffer) imageWords (sym e ∙ h)
-
--- A number r that a call handed over, equal to n, was tested against 0: what a definition says that asks n first.
-module _ {A : Type 0} where
-  pub at-zero : (r n : ℕ) (v x y : A) → r ≡ n → r ≡ 0 → v ≡ x → v ≡ cond (eqb n 0) x y
-  at-zero r n v x y e z p = p ∙ ap (λ (t : Bool). cond t x y) (sym (eq-eqb n 0 (sym e ∙ z)))
-
-  pub not-zero : (r n : ℕ) (v x y : A) → r ≡ n → (r ≡ 0 → ⊥) → v ≡ y → v ≡ cond (eqb n 0) x y
-  not-zero r n v x y e z p = p ∙ ap (λ (t : Bool). cond t x y) (sym (ne-eqb n 0 (λ q. z (e ∙ q))))
-
--- a scan that finds none: none of its indices passes
-pub none-at : (n i : ℕ) (p : ℕ → Bool) → some-below n p ≡ false → i < n → p i ≡ false
-unfolding some-below
-none-at zero i p e l = absurd (not-suc-le-zero l)
-none-at (suc n) i p e l =
-    ⊎-elim (λ q. subst (λ (k : ℕ). p k ≡ false) (sym q) (right (some-below n p) (p n) e)) (λ lt. none-at n i p (left (some-below n p) (p n) e) lt)
-    (eq-or-lt-of-le (le-of-suc-le-suc l))
-  where
-    left : (a b : Bool) → (a || b) ≡ false → a ≡ false
-    left true b q = q
-    left false b q = refl
-
-    right : (a b : Bool) → (a || b) ≡ false → b ≡ false
-    right true b q = absurd (mathlib.Core.Bool.true≢false q)
-    right false b q = q
-
--- a chain of numbers that comes to 0: its first test failed, and the rest comes to 0
-pub zero-first : (t : Bool) (n y : ℕ) → cond t (suc n) y ≡ 0 → t ≡ false
-zero-first true n y e = absurd (suc-ne-zero n e)
-zero-first false n y e = refl
-
-pub zero-rest : (t : Bool) (n y : ℕ) → cond t (suc n) y ≡ 0 → y ≡ 0
-zero-rest true n y e = absurd (suc-ne-zero n e)
-zero-rest false n y e = e
 
 -- a tile's counts that 39 does not refuse
 pub record Counted (frames drops octets dropped : ℕ) : Type 0 where

@@ -6,13 +6,14 @@ use Prim.Native.Nat.{ℕ, _+_, _<_}
 use native.Mathlib.Omega.{arith}
 use borrow.Author.Tests.{ltb-false, leb-false, eqb-false, eqb-true}
 use lib.Dec.{ltb, leb, eqb}
+use Rattle.laws.specs.Chain.{at-zero, not-zero, zero-first, zero-rest}
 use Rattle.image.specs.Layout.{imageIn}
 use Rattle.image.specs.Fields.{partSpc}
 use Rattle.ledger.specs.declared.Answer.{Answer}
 use Rattle.ledger.specs.declared.Answer.the-variants.{Refused, Done}
 use Rattle.ledger.specs.Row.{units, many, cell, put}
 use Rattle.ledger.specs.Range.{standing}
-use Rattle.ledger.specs.Laws.{at-zero, not-zero, zero-first, zero-rest, part-spc-small, Stands, stands}
+use Rattle.ledger.specs.Laws.{part-spc-small, Stands, stands}
 use Rattle.ledger.specs.Answers.{answerOf, numberOf}
 
 -- 36, 37; 0 where neither refuses

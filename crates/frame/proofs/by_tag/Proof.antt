@@ -2,7 +2,7 @@
 use borrow.Author.Needs.{needs}
 use mathlib.Core.Path.{_≡_, refl, sym, ap, _∙_}
 use Prim.Native.Nat.{ℕ}
-use Rattle.frame.specs.Enter.{byTag}
+use Rattle.frame.specs.Intake.{byTag}
 use Rattle.frame.specs.Laws.{same-taken}
 use Rattle.frame.proofs.by_tag.Statement.{statement}
 use Rattle.frame.proofs.by_tag.Tie as tie

@@ -1,16 +1,9 @@
--- `judge::judge`: refused with the ledger as it was, or judged.
+-- `judge::judge`: refused with the row as it was; or the plan carried out, and noted.
+use mathlib.Core.Path.{_≡_, sym, _∙_}
+use native.Mathlib.Omega.{arith}
 use borrow.Author.Needs.{needs}
-use mathlib.Core.Path.{_≡_, refl, sym, ap, subst, _∙_}
 use denote.Ref.{now}
-use Rattle.image.specs.Layout.{imageIn}
-use Prim.Native.Nat.{ℕ}
-use Rattle.ledger.specs.declared.Ledger.{Ledger}
-use Rattle.ledger.specs.Laws.{at-zero, not-zero}
-use Rattle.passage.specs.Passage.{passageOf}
-use Rattle.passage.specs.Laws.{Through, through}
-use Rattle.judge.specs.declared.Verdict.the-variants.{Refused}
-use Rattle.judge.specs.Judge.{judged, byPassage, judgeOf}
-use Rattle.judge.specs.Laws.{admitted, judges, refused-as, judged-as}
+use Rattle.judge.specs.Laws.{admitted-as, plan-runs, still-countable, is-refused, is-judged}
 use Rattle.judge.proofs.judge.Statement.{statement}
 use Rattle.judge.proofs.judge.Tie as tie
 
@@ -19,7 +12,15 @@ judge-spec =
     tie.close
     (tie.spec
     (λ c κs. search needs)
-    (λ c. let s = c .before .before .before .before .args in judges _ _ _ _ _ _ (refused-as (now (s .image)) (s .ledger) (s .port) (s .time) (now (s .frame)) _ (c .before .refusal .ensures) (c .if1 .taken)))
-    (λ c κs. let s = c .before .before .before .before .args in let a = admitted (now (s .image)) (s .ledger) (s .port) (s .time) (now (s .frame)) (sym (c .before .refusal .ensures) ∙ c .if1 .left) in (a .image, a .inside))
-    (λ c κs. let s = c .before .before .before .before .before .args in let a = admitted (now (s .image)) (s .ledger) (s .port) (s .time) (now (s .frame)) (sym (c .before .before .refusal .ensures) ∙ c .before .if1 .left) in (a .image, (a .countable, ((a .inside, a .short), subst (Through (imageIn (now (s .image))) (now (s .frame))) (sym (c .pass .ensures)) (through (imageIn (now (s .image))) (s .port) (now (s .frame)))))))
-    (λ c. let s = c .before .before .before .before .before .before .args in judges _ _ _ _ _ _ (judged-as (now (s .image)) (s .ledger) (s .port) (s .time) (now (s .frame)) _ _ _ (c .before .before .before .refusal .ensures) (c .before .before .if1 .left) (c .before .pass .ensures) (c .by-passage .ensures))))
+    (λ c. search (needs, is-refused))
+    (λ c. search needs)
+    (λ c κs. let a = admitted-as _ _ _ _ _ _ (c .before .refusal .ensures) (c .if1 .left) in (a .image, a .inside))
+    (λ c κs.
+    let a = admitted-as _ _ _ _ _ _ (c .before .before .before .refusal .ensures) (c .before .before .if1 .left) in
+    (plan-runs _ _ _ _ (a .image) (c .before .plan-for .ensures), omega (arith, a .short)))
+    (λ c κs. search needs)
+    (λ c κs.
+    let p = c .before .before .before .before in
+    let a = admitted-as _ _ _ _ _ _ (p .before .before .refusal .ensures) (p .before .if1 .left) in
+    (still-countable _ _ _ _ _ _ _ (c .before .before .carry-out .ensures) (plan-runs _ _ _ _ (a .image) (p .plan-for .ensures)) (a .inside) (a .countable), (a .inside, omega (arith, a .short))))
+    (λ c. search (needs, is-judged)))

@@ -1,12 +1,8 @@
--- `judge::mistimed`: before the last time, or past the latest.
+-- `judge::mistimed`: before the last time, or after the latest.
 use borrow.Author.Needs.{needs}
 use Rattle.laws.specs.Chain.{chain}
 use Rattle.judge.proofs.mistimed.Statement.{statement}
 use Rattle.judge.proofs.mistimed.Tie as tie
 
 pub mistimed-spec : {M : Type 1} → statement M
-mistimed-spec =
-    tie.close
-    (tie.spec
-    (λ c. search (needs, chain) depth 40)
-    (λ c. search (needs, chain) depth 40))
+mistimed-spec = tie.close (tie.spec (λ c. search (needs, chain) depth 40) (λ c. search (needs, chain) depth 40))

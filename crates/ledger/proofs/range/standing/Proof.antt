@@ -1,8 +1,8 @@
 -- `ledger::range::standing`: 31 and 30, then 39.
 use mathlib.Core.Path.{refl}
 use borrow.Author.Needs.{needs}
-use Rattle.laws.specs.Chain.{flags}
-use Rattle.ledger.specs.Laws.{at-zero, not-zero, loaded-as}
+use Rattle.laws.specs.Chain.{flags, at-zero, not-zero}
+use Rattle.ledger.specs.Laws.{loaded-as}
 use Rattle.ledger.specs.Range.{standing}
 use Rattle.ledger.proofs.range.standing.Statement.{statement}
 use Rattle.ledger.proofs.range.standing.Tie as tie

@@ -1,6 +1,7 @@
 -- `ledger::units::refusal`: what stands before every call, then 36 and 37.
 use borrow.Author.Needs.{needs}
-use Rattle.ledger.specs.Laws.{at-zero, not-zero, sound-as}
+use Rattle.laws.specs.Chain.{at-zero, not-zero}
+use Rattle.ledger.specs.Laws.{sound-as}
 use Rattle.ledger.specs.Release.{releaseRefusal}
 use Rattle.ledger.proofs.units.refusal.Statement.{statement}
 use Rattle.ledger.proofs.units.refusal.Tie as tie

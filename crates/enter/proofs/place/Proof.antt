@@ -1,0 +1,24 @@
+-- `enter::place`: the entry that the search gives, or none.
+use borrow.Author.Needs.{needs}
+use mathlib.Core.Path.{_≡_, refl, sym, ap, _∙_}
+use Prim.Native.Nat.{ℕ}
+use Rattle.laws.specs.Chain.{hit-eq, pass-eq}
+use Rattle.image.specs.Layout.{imageIn}
+use denote.Ref.{now}
+use Rattle.enter.specs.Steps.{placedAt, placedOf}
+use Rattle.enter.proofs.place.Statement.{statement}
+use Rattle.enter.proofs.place.Tie as tie
+
+pub place-spec : {M : Type 1} → statement M
+unfolding placedOf
+place-spec =
+    tie.close
+    (tie.spec
+    (λ c κs. search needs)
+    (λ c κs. search needs)
+    (λ c.
+    hit-eq _ _ _ _ (c .if1 .taken ∙ c .before .count .ensures .0)
+    ∙ ap (placedAt (imageIn (now (c .before .before .before .before .args .image)))) (c .before .before .find .ensures .0))
+    (λ c.
+    pass-eq _ _ _ _ _ (λ e. c .if1 .left (e ∙ sym (c .before .count .ensures .0))) refl
+    ∙ ap (placedAt (imageIn (now (c .before .before .before .before .args .image)))) (c .before .before .find .ensures .0)))

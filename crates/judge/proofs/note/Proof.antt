@@ -1,0 +1,41 @@
+-- `judge::note`: the counts that the spending gives, and the time.
+use mathlib.Core.Path.{_≡_, ap}
+use borrow.Author.Needs.{needs}
+use denote.Ref.{now}
+use Rattle.spend.specs.declared.Counts.{Counts}
+use Rattle.judge.specs.Judge.{withCounts, noted}
+use Rattle.judge.proofs.note.Statement.{statement}
+use Rattle.judge.proofs.note.Tie as tie
+
+pub note-spec : {M : Type 1} → statement M
+unfolding noted
+note-spec =
+    tie.close
+    (tie.spec
+    (λ c. search needs)
+    (λ c. search needs)
+    (λ c. search needs)
+    (λ c. search needs)
+    (λ c. search needs)
+    (λ c. search needs)
+    (λ c. search needs)
+    (λ c. search needs)
+    (λ c. search needs)
+    (λ c. search needs)
+    (λ c. search needs)
+    (λ c. search needs)
+    (λ c κs. search needs)
+    (λ c. search needs)
+    (λ c. search needs)
+    (λ c. search needs)
+    (λ c. search needs)
+    (λ c. search needs)
+    (λ c. search needs)
+    (λ c. search needs)
+    (λ c. search needs)
+    (λ c. search needs)
+    (λ c. search needs)
+    (λ c. search needs)
+    (λ c. search needs)
+    (λ c. search needs)
+    (λ c. let s = c .before .before .before .before .before .args in ap (withCounts (now (s .row)) (s .port) (s .time)) (c .counted .ensures)))

@@ -1,0 +1,31 @@
+-- `plan::plan`: what steps 7 and 8 answer, and then.
+use mathlib.Core.Path.{_≡_, sym, ap, subst, _∙_}
+use Prim.Native.Nat.{ℕ, _+_}
+use borrow.Author.Needs.{needs}
+use lib.ListN.{length}
+use denote.Ref.{now}
+use Rattle.image.specs.Layout.{imageIn}
+use Rattle.plan.specs.Police.{policedOf}
+use Rattle.plan.specs.Plan.{byPolicer, planOf}
+use Rattle.plan.specs.Laws.{Loaded, policed}
+use Rattle.plan.proofs.plan.Statement.{statement}
+use Rattle.plan.proofs.plan.Tie as tie
+
+pub plan-spec : {M : Type 1} → statement M
+unfolding planOf
+plan-spec =
+    tie.close
+    (tie.spec
+    (λ c κs. search needs)
+    (λ c. search needs)
+    (λ c κs. search needs)
+    (λ c κs.
+    let s = c .before .before .before .before in
+    let h = s .pre .1 .1 in
+    (s .pre .0, ((s .pre .1 .0, h .there, h .narrow), subst (Loaded (imageIn (now (s .args .image)))) (sym (c .police .ensures)) (policed _ _ _ _ _))))
+    (λ c.
+    let s = c .before .before .before .before .before .args in
+    c .by-policer .ensures
+    ∙ ap (byPolicer _ _ _ _ _ _) (c .before .police .ensures)
+    ∙ ap (λ (d : ℕ). byPolicer (imageIn (now (s .image))) (s .port) d (s .vlan) (s .place) (s .priority) (policedOf (imageIn (now (s .image))) (s .port) (s .priority) d (length (now (s .frame)) + 4)))
+    (c .before .before .mac-at .ensures)))

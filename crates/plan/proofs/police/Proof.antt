@@ -1,0 +1,20 @@
+-- `plan::police`: entry k's answer.
+use borrow.Author.Needs.{needs}
+use mathlib.Core.Path.{ap, _∙_}
+use Prim.Native.Nat.{ℕ}
+use denote.Ref.{now}
+use Rattle.image.specs.Layout.{imageIn}
+use Rattle.plan.specs.Police.{policedBy, policedOf}
+use Rattle.plan.proofs.police.Statement.{statement}
+use Rattle.plan.proofs.police.Tie as tie
+
+pub police-spec : {M : Type 1} → statement M
+unfolding policedOf
+police-spec =
+    tie.close
+    (tie.spec
+    (λ c κs. search needs)
+    (λ c κs. search needs)
+    (λ c.
+    let s = c .before .before .before .args in
+    c .policed-by .ensures ∙ ap (λ (k : ℕ). policedBy (imageIn (now (s .image))) k (s .octets)) (c .before .policer-of .ensures)))

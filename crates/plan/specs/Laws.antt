@@ -1,0 +1,89 @@
+-- What a course has.
+use mathlib.Core.Path.{_≡_, refl, sym, _∙_, ap}
+use mathlib.Core.Bool.{Bool, true, false, cond}
+use mathlib.Core.List.{List}
+use Prim.Native.Nat.{ℕ, _<_}
+use native.Mathlib.Nat.{mod-lt}
+use lib.Pow.{pow-pos}
+use lib.Dec.{ltb, leb}
+use borrow.Author.Tests.{leb-false}
+use Rattle.image.specs.Layout.{countOf}
+use Rattle.image.specs.Fields.{sharindx, maxlen, smax, rate, partition}
+use Rattle.frame.specs.Bytes.{octetsOf, destinationOf}
+use Rattle.ports.specs.declared.Sending.{Sending}
+use Rattle.ports.specs.Ports.{portsOf, sendingOf}
+use Rattle.plan.specs.declared.Policed.{Policed}
+use Rattle.plan.specs.declared.Policed.the-variants.{Unmetered, TooLong, By}
+use Rattle.plan.specs.declared.Course.{Course}
+use Rattle.plan.specs.declared.Planned.{Planned}
+use Rattle.plan.specs.declared.Planned.the-variants.{Dropped, Goes}
+use Rattle.plan.specs.Police.{policerOf, meteredBy, policedBy, policedOf}
+use Rattle.plan.specs.Plan.{courseOf, byPolicer, planOf}
+
+-- a course by what was read for it
+abbrev course : ℕ → ℕ → ℕ → ℕ → Sending → Course
+course m s r p v = record { meter = m; smax = s; rate = r; partition = p; sending = v }
+
+pub same-course : (image : List ℕ) (port destination vlan place priority policer meter s r p to : ℕ) (v : Sending) → s ≡ smax image meter → r ≡ rate image meter
+    → p ≡ partition image policer
+    → to ≡ portsOf image port vlan place destination
+    → v ≡ sendingOf image port to vlan priority place
+    → course meter s r p v ≡ courseOf image port destination vlan place priority policer meter
+unfolding courseOf
+same-course image port destination vlan place priority policer meter s r p to v a b c d e =
+    ap (λ (x : ℕ). course meter x r p v) a
+    ∙ ap (λ (x : ℕ). course meter (smax image meter) x p v) b
+    ∙ ap (λ (x : ℕ). course meter (smax image meter) (rate image meter) x v) c
+    ∙ ap (course meter (smax image meter) (rate image meter) (partition image policer)) (e ∙ ap (λ (x : ℕ). sendingOf image port x vlan priority place) d)
+
+-- where 7 and 8 find entries, both are loaded
+abbrev pub Loaded : List ℕ → Policed → Type 0
+Loaded image Unmetered = Unit {0}
+Loaded image TooLong = Unit {0}
+Loaded image (By policer meter) = (policer < countOf image 1) × (meter < countOf image 1)
+
+pub policed : (image : List ℕ) (port priority destination octets : ℕ) → Loaded image (policedOf image port priority destination octets)
+unfolding policedOf
+policed image port priority destination octets = by (leb (countOf image 1) k) refl
+  where
+    k : ℕ
+    k = policerOf port priority destination
+
+    m : ℕ
+    m = sharindx image k
+
+    eight : k < countOf image 1 → m < countOf image 1 → (t : Bool) → Loaded image (cond t TooLong (By k m))
+    eight h l true = tt
+    eight h l false = (h, l)
+
+    seven : k < countOf image 1 → (t : Bool) → t ≡ leb (countOf image 1) m
+        → Loaded image (cond t Unmetered (cond (ltb (maxlen image k) octets) TooLong (By k m)))
+    seven h true e = tt
+    seven h false e = eight h (leb-false (countOf image 1) m (sym e)) (ltb (maxlen image k) octets)
+
+    by : (t : Bool) → t ≡ leb (countOf image 1) k → Loaded image (cond t Unmetered (meteredBy image k (sharindx image k) octets))
+    by true e = tt
+    by false e = seven (leb-false (countOf image 1) k (sym e)) (leb (countOf image 1) m) refl
+
+-- a course's meter is a loaded entry's, with its SMAX; its partition is one of the eight; SMAX and RATE have sixteen bits
+pub record Sane (image : List ℕ) (w : Course) : Type 0 where
+  pub meter : w .meter < countOf image 1
+  pub own : w .smax ≡ smax image (w .meter)
+  pub smax : w .smax < 65536
+  pub rate : w .rate < 65536
+  pub partition : w .partition < 8
+
+abbrev pub Follows : List ℕ → Planned → Type 0
+Follows image (Dropped n) = Unit {0}
+Follows image (Goes w) = Sane image w
+
+pub follows : (image : List ℕ) (port : ℕ) (frame : List ℕ) (vlan place priority : ℕ) → Follows image (planOf image port frame vlan place priority)
+unfolding planOf courseOf
+follows image port frame vlan place priority =
+    go (policedOf image port priority (destinationOf frame) (octetsOf frame)) (policed image port priority (destinationOf frame) (octetsOf frame))
+  where
+    go : (q : Policed) → Loaded image q → Follows image (byPolicer image port (destinationOf frame) vlan place priority q)
+    go Unmetered l = tt
+    go TooLong l = tt
+    go (By policer meter) l =
+        record { meter = l .1; own = refl; smax = mod-lt _ (pow-pos 16); rate = mod-lt _ (pow-pos 16); partition = mod-lt _ (pow-pos 3) }

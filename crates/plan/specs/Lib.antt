@@ -1,0 +1,5 @@
+-- Steps 7 and 8, and what steps 9 to 11 need of a frame that passes them.
+pub mod Police
+pub mod Plan
+pub mod Laws
+pub mod Proved

@@ -1,0 +1,166 @@
+// Steps 7 and 8, and what steps 9 to 11 need of a frame that passes them: its meter, its partition, and the sending if it comes to that.
+// They read the image and the frame only, and can be run with any VLAN, place and priority.
+use ports::Sending;
+ghost use mathlib.Core.Path.{_≡_};
+ghost use Prim.Native.Nat.{_+_, _<_, _≤_};
+ghost use lib.Dec.{leb};
+ghost use lib.ListN.{length};
+ghost use Rattle.image.specs.Layout.{imageIn, countOf};
+ghost use Rattle.image.specs.Sound.{Sound};
+ghost use Rattle.enter.specs.Laws.{LetIn};
+ghost use Rattle.plan.specs.Police.{policerOf, meteredBy, policedBy, policedOf};
+ghost use Rattle.plan.specs.Plan.{courseOf, byPolicer, planOf};
+ghost use Rattle.plan.specs.Laws.{Loaded};
+
+// Steps 7 and 8: no meter to use, too long for its policing entry, or let through by entry `policer` with the meter of entry `meter`.
+pub enum Policed {
+    Unmetered,
+    TooLong,
+    By { policer: usize, meter: usize },
+}
+
+// The meter's entry with its SMAX and RATE, the partition, and where the frame goes; its ports are none where drop 10 is due.
+pub struct Course {
+    pub meter: usize,
+    pub smax: u64,
+    pub rate: u64,
+    pub partition: usize,
+    pub sending: Sending,
+}
+
+// Dropped at 7 or 8, or the course of steps 9 to 11.
+pub enum Planned {
+    Dropped(u32),
+    Goes(Course),
+}
+
+// The policing entry k.
+fn policer_of(port: usize, priority: u64, destination: u64) -> usize
+    requires { ⌜ (port < 5) × (priority < 8) ⌝ }
+    ensures { λ r. ⌜ r ≡ policerOf port priority destination ⌝ }
+{
+    if destination == frame::BROADCAST {
+        return 40 + port;
+    }
+    8 * port + priority as usize
+}
+
+// Is policing entry k not loaded?
+fn unloaded(image: &[u32], k: usize) -> bool
+    requires { ⌜ Sound (now image) ⌝ }
+    ensures { λ r. ⌜ r ≡ leb (countOf (imageIn (now (image .entry))) 1) k ⌝ }
+{
+    image::counts::count(image, 1) <= k
+}
+
+fn metered(image: &[u32], policer: usize, meter: usize, octets: u64) -> Policed
+    requires { ⌜ Sound (now image) ⌝ }
+    requires { ⌜ policer < countOf (imageIn (now image)) 1 ⌝ }
+    ensures { λ r. ⌜ r ≡ meteredBy (imageIn (now (image .entry))) policer meter octets ⌝ }
+{
+    if unloaded(image, meter) {
+        return Policed::Unmetered;
+    }
+    if image::policing::maxlen(image, policer) < octets {
+        return Policed::TooLong;
+    }
+    Policed::By { policer, meter }
+}
+
+fn policed_by(image: &[u32], policer: usize, octets: u64) -> Policed
+    requires { ⌜ Sound (now image) ⌝ }
+    ensures { λ r. ⌜ r ≡ policedBy (imageIn (now (image .entry))) policer octets ⌝ }
+{
+    if unloaded(image, policer) {
+        return Policed::Unmetered;
+    }
+    let meter = image::policing::sharindx(image, policer) as usize;
+    metered(image, policer, meter, octets)
+}
+
+// Steps 7 and 8.
+fn police(image: &[u32], port: usize, priority: u64, destination: u64, octets: u64) -> Policed
+    requires { ⌜ Sound (now image) ⌝ }
+    requires { ⌜ (port < 5) × (priority < 8) ⌝ }
+    ensures { λ r. ⌜ r ≡ policedOf (imageIn (now (image .entry))) port priority destination octets ⌝ }
+{
+    policed_by(image, policer_of(port, priority, destination), octets)
+}
+
+fn course_of(
+    image: &[u32],
+    port: usize,
+    destination: u64,
+    vlan: u64,
+    place: usize,
+    priority: u64,
+    policer: usize,
+    meter: usize,
+) -> Course
+    requires { ⌜ Sound (now image) ⌝ }
+    requires { ⌜ (port < 5) × (place < countOf (imageIn (now image)) 2) × (priority < 8) ⌝ }
+    requires { ⌜ (policer < countOf (imageIn (now image)) 1) × (meter < countOf (imageIn (now image)) 1) ⌝ }
+    ensures { λ r. ⌜ r ≡ courseOf (imageIn (now (image .entry))) port destination vlan place priority policer meter ⌝ }
+{
+    let to = ports::ports(image, port, vlan, place, destination);
+    Course {
+        meter,
+        smax: image::policing::smax(image, meter),
+        rate: image::policing::rate(image, meter),
+        partition: image::policing::partition(image, policer) as usize,
+        sending: ports::send(image, port, to, vlan, priority, place),
+    }
+}
+
+fn by_policer(
+    image: &[u32],
+    port: usize,
+    destination: u64,
+    vlan: u64,
+    place: usize,
+    priority: u64,
+    policed: Policed,
+) -> Planned
+    requires { ⌜ Sound (now image) ⌝ }
+    requires { ⌜ (port < 5) × (place < countOf (imageIn (now image)) 2) × (priority < 8) ⌝ }
+    requires { ⌜ Loaded (imageIn (now image)) policed ⌝ }
+    ensures { λ r. ⌜ r ≡ byPolicer (imageIn (now (image .entry))) port destination vlan place priority policed ⌝ }
+{
+    match policed {
+        Policed::Unmetered => Planned::Dropped(7),
+        Policed::TooLong => Planned::Dropped(8),
+        Policed::By { policer, meter } => {
+            let w = course_of(
+                image,
+                port,
+                destination,
+                vlan,
+                place,
+                priority,
+                policer,
+                meter,
+            );
+            Planned::Goes(w)
+        }
+    }
+}
+
+// Steps 7 and 8 for a frame that is let in, and the course of the rest.
+pub fn plan(
+    image: &[u32],
+    port: usize,
+    frame: &[u8],
+    vlan: u64,
+    place: usize,
+    priority: u64,
+) -> Planned
+    requires { ⌜ Sound (now image) ⌝ }
+    requires { ⌜ port < 5 ⌝ }
+    requires { ⌜ LetIn (imageIn (now image)) (now frame) place priority ⌝ }
+    ensures { λ r. ⌜ r ≡ planOf (imageIn (now (image .entry))) port (now (frame .entry)) vlan place priority ⌝ }
+{
+    let destination = frame::mac_at(frame, 0);
+    let octets = frame.len() as u64 + 4;
+    let policed = police(image, port, priority, destination, octets);
+    by_policer(image, port, destination, vlan, place, priority, policed)
+}
