@@ -4,12 +4,11 @@ use mathlib.Core.Bool.{Bool, true, false, cond}
 use mathlib.Core.List.{List, [], _∷_}
 use Prim.Native.Nat.{ℕ}
 use lib.Dec.{ltb, eqb}
-use lib.ListN.{getD}
 use lib.IntN.{pos}
 use lib.Ieee.{Float, binary64, div, ofInt, isNan, toBits}
 use Rattle.image.specs.Layout.{imageIn}
 use Rattle.image.specs.Loaded.{tooShort, notLoaded}
-use Rattle.ledger.specs.declared.Ledger.{Ledger}
+use Rattle.ledger.specs.Row.{frames, drops, octets, dropped, cell}
 use Rattle.ledger.specs.Range.{outOfRange}
 use Rattle.tile.specs.declared.shares.Tile.{Tile}
 use Rattle.tile.specs.declared.shares.Tile.the-variants.{NotLoaded, NoFrames, Shares}
@@ -24,11 +23,11 @@ shareOf part of = div binary64 (ofInt binary64 (pos part)) (ofInt binary64 (pos 
 abbrev pub tileOf : ℕ → ℕ → ℕ → ℕ → Tile
 tileOf frames drops octets dropped = cond (eqb frames 0) NoFrames (Shares (shareOf drops frames) (shareOf dropped octets))
 
-abbrev pub tileAt : Ledger → ℕ → Tile
-tileAt g port = tileOf (getD (g .frames) port 0) (getD (g .drops) port 0) (getD (g .octets) port 0) (getD (g .dropped) port 0)
+abbrev pub tileAt : List ℕ → ℕ → Tile
+tileAt g port = tileOf (cell g frames port) (cell g drops port) (cell g octets port) (cell g dropped port)
 
 -- "refuses 31, then 33; then not-loaded is the answer where 30 would be given; then 39. It changes nothing."
-unfoldable pub askedOf : List ℕ → Ledger → ℕ → Asked
+unfoldable pub askedOf : List ℕ → List ℕ → ℕ → Asked
 askedOf buffer g port =
     cond (tooShort buffer) (Refused 31)
     (cond (ltb 4 port) (Refused 33)
@@ -50,16 +49,16 @@ valuesOf (Refused n) = []
 valuesOf (Shown t) = sharesIn t
 
 -- what a tile's call answers
-pub record Tiled (buffer : List ℕ) (g : Ledger) (port : ℕ) (r : Asked) : Type 0 where
+pub record Tiled (buffer g : List ℕ) (port : ℕ) (r : Asked) : Type 0 where
   pub whole : r ≡ askedOf buffer g port
   pub number : numberOf r ≡ numberOf (askedOf buffer g port)
   pub values : valuesOf r ≡ valuesOf (askedOf buffer g port)
 
-pub tiled : (buffer : List ℕ) (g : Ledger) (port : ℕ) (r : Asked) → r ≡ askedOf buffer g port → Tiled buffer g port r
+pub tiled : (buffer g : List ℕ) (port : ℕ) (r : Asked) → r ≡ askedOf buffer g port → Tiled buffer g port r
 tiled buffer g port r e = record { whole = e; number = ap numberOf e; values = ap valuesOf e }
 
 -- the promise permits one answer
-pub one-answer : (buffer : List ℕ) (g : Ledger) (port : ℕ) (r s : Asked) → Tiled buffer g port r → Tiled buffer g port s → r ≡ s
+pub one-answer : (buffer g : List ℕ) (port : ℕ) (r s : Asked) → Tiled buffer g port r → Tiled buffer g port s → r ≡ s
 one-answer buffer g port r s a b = a .whole ∙ sym (b .whole)
 
 -- the bits of a share, and a NaN's usual pattern for what no share is
@@ -67,7 +66,7 @@ abbrev pub bitsOf : Float → ℕ
 bitsOf x = cond (isNan x) 0x7FF8000000000000 (toBits binary64 x)
 
 -- a buffer's rest has no part in it
-pub same-tile : (a b : List ℕ) → tooShort a ≡ tooShort b → imageIn a ≡ imageIn b → (g : Ledger) (port : ℕ) → askedOf a g port ≡ askedOf b g port
+pub same-tile : (a b : List ℕ) → tooShort a ≡ tooShort b → imageIn a ≡ imageIn b → (g : List ℕ) (port : ℕ) → askedOf a g port ≡ askedOf b g port
 unfolding askedOf
 same-tile a b long image g port =
     ap (λ (t : Bool). told t (imageIn a)) long ∙ ap (told (tooShort b)) image

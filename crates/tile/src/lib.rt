@@ -1,5 +1,9 @@
 // A port's tile: not-loaded, no-frames, or its shares of dropped frames and octets.
-use ledger::Ledger;
+use ledger::CELLS;
+use ledger::DROPPED;
+use ledger::DROPS;
+use ledger::FRAMES;
+use ledger::OCTETS;
 use shares::Asked;
 use shares::Tile;
 ghost use mathlib.Core.Path.{_≡_};
@@ -8,21 +12,21 @@ ghost use Rattle.tile.specs.Tiles.{tileAt, askedOf, Tiled};
 
 pub mod shares;
 
-fn tile_at(ledger: Ledger, port: usize) -> Tile
+fn tile_at(row: &[u64; CELLS], port: usize) -> Tile
     requires { ⌜ port < 5 ⌝ }
-    ensures { λ r. ⌜ r ≡ tileAt ledger port ⌝ }
+    ensures { λ r. ⌜ r ≡ tileAt (now (row .entry)) port ⌝ }
 {
     shares::tile_of(
-        ledger.frames[port],
-        ledger.drops[port],
-        ledger.octets[port],
-        ledger.dropped[port],
+        row[FRAMES + port],
+        row[DROPS + port],
+        row[OCTETS + port],
+        row[DROPPED + port],
     )
 }
 
 // What the screen shows of a port. It changes nothing.
-pub fn tile(image: &[u32], ledger: Ledger, port: usize) -> Asked
-    ensures { λ r. ⌜ Tiled (now (image .entry)) ledger port r ⌝ }
+pub fn tile(image: &[u32], row: &[u64; CELLS], port: usize) -> Asked
+    ensures { λ r. ⌜ Tiled (now (image .entry)) (now (row .entry)) port r ⌝ }
 {
     if image::counts::too_short(image) {
         return Asked::Refused(31);
@@ -33,8 +37,8 @@ pub fn tile(image: &[u32], ledger: Ledger, port: usize) -> Asked
     if image::counts::not_loaded(image) {
         return Asked::Shown(Tile::NotLoaded);
     }
-    if ledger::range::out_of_range(image, ledger) {
+    if ledger::range::out_of_range(image, row) {
         return Asked::Refused(39);
     }
-    Asked::Shown(tile_at(ledger, port))
+    Asked::Shown(tile_at(row, port))
 }

@@ -3,7 +3,8 @@ use borrow.Author.Needs.{needs}
 use mathlib.Core.Path.{_≡_, refl, sym, ap, subst, _∙_}
 use denote.Ref.{now}
 use Rattle.laws.specs.Chain.{hit, pass, hit-lt, pass-lt}
-use Rattle.ledger.specs.Laws.{long-enough, loaded}
+use Rattle.image.specs.Sound.{sound}
+use Rattle.ledger.specs.Laws.{long-enough}
 use Rattle.tile.specs.declared.shares.Asked.the-variants.{Shown}
 use Rattle.tile.specs.Tiles.{askedOf, tiled}
 use Rattle.tile.proofs.tile.Statement.{statement}
@@ -19,7 +20,7 @@ tile-spec =
     (λ c. tiled _ _ _ _ (pass _ _ _ _ _ (c .before .before .too-short .ensures) (c .before .if1 .left) (hit-lt _ _ _ _ (c .if2 .taken))))
     (λ c κs. long-enough (now (c .before .before .before .before .args .image)) _ (c .before .before .too-short .ensures) (c .before .if1 .left))
     (λ c. tiled _ _ _ _ (pass _ _ _ _ _ (c .before .before .before .before .too-short .ensures) (c .before .before .before .if1 .left) (pass-lt _ _ _ _ _ (c .before .before .if2 .left) (hit _ _ _ _ (c .before .not-loaded .ensures) (c .if3 .taken)))))
-    (λ c κs. loaded (now (c .before .before .before .before .before .before .args .image)) _ _ (c .before .before .before .before .too-short .ensures) (c .before .before .before .if1 .left) (c .before .not-loaded .ensures) (c .if3 .left))
+    (λ c κs. sound _ (long-enough (now (c .before .before .before .before .before .before .args .image)) _ (c .before .before .before .before .too-short .ensures) (c .before .before .before .if1 .left)) (sym (c .before .not-loaded .ensures) ∙ c .if3 .left))
     (λ c. tiled _ _ _ _ (pass _ _ _ _ _ (c .before .before .before .before .before .before .too-short .ensures) (c .before .before .before .before .before .if1 .left) (pass-lt _ _ _ _ _ (c .before .before .before .before .if2 .left) (pass _ _ _ _ _ (c .before .before .before .not-loaded .ensures) (c .before .before .if3 .left) (hit _ _ _ _ (c .before .out-of-range .ensures) (c .if4 .taken))))))
     (λ c κs. search needs)
     (λ c. tiled _ _ _ _ (pass _ _ _ _ _ (c .before .before .before .before .before .before .before .too-short .ensures) (c .before .before .before .before .before .before .if1 .left) (pass-lt _ _ _ _ _ (c .before .before .before .before .before .if2 .left) (pass _ _ _ _ _ (c .before .before .before .before .not-loaded .ensures) (c .before .before .before .if3 .left) (pass _ _ _ _ _ (c .before .before .out-of-range .ensures) (c .before .if4 .left) (ap Shown (c .tile-at .ensures))))))))
