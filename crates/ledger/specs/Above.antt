@@ -46,14 +46,6 @@ tells-either a b x y t u =
     by false true = refl
     by false false = refl
 
--- as a test
-pub told : (a : Bool) (x : ℕ) → Tells a x → eqb (x / 2 ^ 63) 1 ≡ a
-told a x t = ap (λ (k : ℕ). eqb k 1) (t .top) ∙ by a
-  where
-    by : (a : Bool) → eqb (flag a) 1 ≡ a
-    by true = refl
-    by false = refl
-
 -- a loop that ors such numbers: nothing yet, one turn more, the end
 pub tells-none : (p : ℕ → Bool) → Tells (some-below 0 p) 0
 unfolding some-below
@@ -62,8 +54,12 @@ tells-none p = record { top = refl }
 pub tells-more : (p : ℕ → Bool) (k all one : ℕ) → Tells (some-below k p) all → Tells (p k) one → Tells (some-below (k + 1) p) (bitOr all one)
 tells-more p k all one t u = subst (λ (b : Bool). Tells b (bitOr all one)) (sym (some-more k p)) (tells-either (some-below k p) (p k) all one t u)
 
-pub tells-end : (p : ℕ → Bool) (n k all : ℕ) → Tells (some-below k p) all → n ≤ k → k ≤ n → Tells (some-below n p) all
-tells-end p n k all t a b = subst (λ (i : ℕ). Tells (some-below i p) all) (le-antisymm b a) t
+pub tells-end : (p : ℕ → Bool) (n k all : ℕ) → Tells (some-below k p) all → n ≤ k → k ≤ n → eqb (all / 2 ^ 63) 1 ≡ some-below n p
+tells-end p n k all t a b = ap (λ (x : ℕ). eqb x 1) (t .top) ∙ back (some-below k p) ∙ ap (λ (i : ℕ). some-below i p) (le-antisymm b a)
+  where
+    back : (b : Bool) → eqb (flag b) 1 ≡ b
+    back true = refl
+    back false = refl
 
 -- two scans in one pass
 pub some-either : (n : ℕ) (p q : ℕ → Bool) → some-below n (λ k. p k || q k) ≡ (some-below n p || some-below n q)
@@ -97,25 +93,25 @@ not-loaded image k n e h = pass-lt k (countOf image 1) 0 _ 0 (of-le k (countOf i
 
 -- credit and times in one pass
 pub meters-end : (image g : List ℕ) (k all : ℕ) → Tells (some-below k (meterOff image g)) all → many credit ≤ k → k ≤ many credit
-    → Tells (creditOver image g || timesOver g) all
+    → eqb (all / 2 ^ 63) 1 ≡ (creditOver image g || timesOver g)
 unfolding meterOff meterOver
 meters-end image g k all t a b =
-    subst (λ (x : Bool). Tells x all) (some-either (many credit) (λ i. ltb (fullOf image i) (cell g credit i)) (λ i. ltb (cell g last 0) (cell g since i)))
-    (tells-end (meterOff image g) (many credit) k all t a b)
+    tells-end (meterOff image g) (many credit) k all t a b
+    ∙ some-either (many credit) (λ i. ltb (fullOf image i) (cell g credit i)) (λ i. ltb (cell g last 0) (cell g since i))
 
--- the last time and the tiles first, then all that is compared by its top bit
+-- the last time first, which bounds what the meters' times are held to, and the meters last
 pub as-asked : (image g : List ℕ) (v : Bool)
-    → v ≡ cond (ltb latest (cell g last 0)) true (cond (tilesOff g) true (unitsOver image g || (creditOver image g || timesOver g)))
+    → v ≡ cond (ltb latest (cell g last 0)) true (cond (unitsOver image g) true (cond (tilesOff g) true (creditOver image g || timesOver g)))
     → v ≡ outOfRange image g
 unfolding outOfRange
-as-asked image g v e = e ∙ by (unitsOver image g) (creditOver image g) (tilesOff g) (timesOver g) (ltb latest (cell g last 0))
+as-asked image g v e = e ∙ by (unitsOver image g) (tilesOff g) (creditOver image g) (timesOver g) (ltb latest (cell g last 0))
   where
-    by : (u c t m l : Bool) → cond l true (cond t true (u || (c || m))) ≡ cond u true (cond c true (cond t true (cond m true l)))
-    by true c t m true = refl
-    by true c true m false = refl
-    by true c false m false = refl
-    by false true t m true = refl
+    by : (u t c m l : Bool) → cond l true (cond u true (cond t true (c || m))) ≡ cond u true (cond c true (cond t true (cond m true l)))
+    by true t c m true = refl
+    by true t c m false = refl
+    by false true true m true = refl
     by false true true m false = refl
+    by false true false m true = refl
     by false true false m false = refl
     by false false true m true = refl
     by false false true m false = refl

@@ -36,9 +36,9 @@ fn above(most: u64, v: u64) -> u64
 }
 
 // A partition has more units left than its PART_SPC.
-fn units_over(image: &[u32], row: &[u64; CELLS]) -> u64
+fn units_over(image: &[u32], row: &[u64; CELLS]) -> bool
     requires { ⌜ Sound (now image) ⌝ }
-    ensures { λ r. ⌜ Tells (unitsOver (imageIn (now (image .entry))) (now (row .entry))) r ⌝ }
+    ensures { λ r. ⌜ r ≡ unitsOver (imageIn (now (image .entry))) (now (row .entry)) ⌝ }
 {
     let mut all: u64 = 0;
     let mut j: usize = 0;
@@ -46,7 +46,7 @@ fn units_over(image: &[u32], row: &[u64; CELLS]) -> u64
         all = all | above(image::parameters::part_spc(image, j), row[UNITS + j]);
         j += 1;
     }
-    all
+    all >> 63 == 1
 }
 
 // What meter k holds when it is full; nothing where its entry is not loaded.
@@ -69,9 +69,9 @@ fn meter_over(row: &[u64; CELLS], k: usize, most: u64) -> u64
 }
 
 // Some meter does, those with an entry first: the others hold nothing when they are full.
-fn meters_over(image: &[u32], row: &[u64; CELLS]) -> u64
+fn meters_over(image: &[u32], row: &[u64; CELLS]) -> bool
     requires { ⌜ Sound (now image) × (cell (now row) last 0 ≤ latest) ⌝ }
-    ensures { λ r. ⌜ Tells (creditOver (imageIn (now (image .entry))) (now (row .entry)) || timesOver (now (row .entry))) r ⌝ }
+    ensures { λ r. ⌜ r ≡ (creditOver (imageIn (now (image .entry))) (now (row .entry)) || timesOver (now (row .entry))) ⌝ }
 {
     let entries = image::counts::count(image, 1);
     let mut all: u64 = 0;
@@ -84,7 +84,7 @@ fn meters_over(image: &[u32], row: &[u64; CELLS]) -> u64
         all = all | meter_over(row, k, 0);
         k += 1;
     }
-    all
+    all >> 63 == 1
 }
 
 // Octets that so many frames cannot have. Up to 2^64 / 4,100 frames one comparison tells both: fewer octets than 4 a frame wrap to more than any such
@@ -140,10 +140,13 @@ pub fn out_of_range(image: &[u32], row: &[u64; CELLS]) -> bool
     if LATEST < row[LAST] {
         return true;
     }
+    if units_over(image, row) {
+        return true;
+    }
     if tiles_off(row) {
         return true;
     }
-    (units_over(image, row) | meters_over(image, row)) >> 63 == 1
+    meters_over(image, row)
 }
 
 // 31, 30; 0 where neither refuses.

@@ -1,7 +1,7 @@
 -- `ledger::range::out_of_range`: 39's clauses, in the order in which they are asked.
 use borrow.Author.Needs.{needs}
 use Rattle.laws.specs.Chain.{chain}
-use Rattle.ledger.specs.Above.{as-asked, told, tells-either}
+use Rattle.ledger.specs.Above.{as-asked}
 use Rattle.ledger.proofs.range.out_of_range.Statement.{statement}
 use Rattle.ledger.proofs.range.out_of_range.Tie as tie
 
@@ -14,5 +14,6 @@ out-of-range-spec =
     (λ c κs. search needs)
     (λ c. as-asked _ _ _ (search (needs, chain) depth 40))
     (λ c κs. search needs)
+    (λ c. as-asked _ _ _ (search (needs, chain) depth 40))
     (λ c κs. search needs)
-    (λ c. as-asked _ _ _ (search (needs, chain, told _ _ (tells-either _ _ _ _ (c .before .units-over .ensures) (c .meters-over .ensures))) depth 40)))
+    (λ c. as-asked _ _ _ (search (needs, chain) depth 40)))
