@@ -75,7 +75,7 @@ some-either (suc n) p q = ap (λ (t : Bool). t || (p n || q n)) (some-either n p
     by false false false d = refl
 
 -- meter k holds more than `most`, or was set after the last time
-unfoldable pub meterOver : List ℕ → ℕ → ℕ → Bool
+abbrev pub meterOver : List ℕ → ℕ → ℕ → Bool
 meterOver g k most = ltb most (cell g credit k) || ltb (cell g last 0) (cell g since k)
 
 -- and of its own most
@@ -94,7 +94,7 @@ not-loaded image k n e h = pass-lt k (countOf image 1) 0 _ 0 (of-le k (countOf i
 -- credit and times in one pass
 pub meters-end : (image g : List ℕ) (k all : ℕ) → Tells (some-below k (meterOff image g)) all → many credit ≤ k → k ≤ many credit
     → eqb (all / 2 ^ 63) 1 ≡ (creditOver image g || timesOver g)
-unfolding meterOff meterOver
+unfolding meterOff
 meters-end image g k all t a b =
     tells-end (meterOff image g) (many credit) k all t a b
     ∙ some-either (many credit) (λ i. ltb (fullOf image i) (cell g credit i)) (λ i. ltb (cell g last 0) (cell g since i))

@@ -9,4 +9,4 @@ above-spec =
     tie.close
     (tie.spec
     (λ c κs. search needs)
-    (λ c. tells-above _ _ _ (c .before .pre) (c .before .fits .v .fits) (search needs) (c .wrapping-sub-u64 .ensures)))
+    (λ c. search (needs, tells-above)))

@@ -1,11 +1,10 @@
 -- `ledger::range::meter_over`: its credit or its time.
 use borrow.Author.Needs.{needs}
-use Rattle.ledger.specs.Above.{meterOver, tells-either}
+use Rattle.ledger.specs.Above.{tells-either}
 use Rattle.ledger.proofs.range.meter_over.Statement.{statement}
 use Rattle.ledger.proofs.range.meter_over.Tie as tie
 
 pub meter-over-spec : {M : Type 1} → statement M
-unfolding meterOver
 meter-over-spec =
     tie.close
     (tie.spec
@@ -18,4 +17,4 @@ meter-over-spec =
     (λ c. search needs)
     (λ c. search needs)
     (λ c κs. search needs)
-    (λ c. tells-either _ _ _ _ (c .before .before .before .above .ensures) (c .above2 .ensures)))
+    (λ c. search (needs, tells-either)))

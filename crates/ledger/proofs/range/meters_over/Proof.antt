@@ -34,14 +34,10 @@ meters-over-spec =
     (λ c κs. search needs)
     (λ c. search needs)
     (λ c. search needs)
-    (λ c.
-    let l = c .before .before .before .loop in
-    (omega arith, meter-more _ _ (l .k) (l .all) _ _ (l .inv .1) (c .meter-over .ensures) (c .before .full .ensures .0)))
+    (λ c. (search needs, search (needs, meter-more)))
     (λ c. (search needs, search needs, c .before .loop .inv .1))
     (λ c κs. search needs)
     (λ c. search needs)
     (λ c. search needs)
-    (λ c.
-    let l = c .before .before .loop2 in
-    (omega arith, omega arith, meter-more _ _ (l .k) (l .all) _ _ (l .inv .2) (c .meter-over2 .ensures) (not-loaded (imageIn (c .before .before .before .before .before .before .before .args .image .now)) (l .k) _ (c .before .before .before .before .before .count .ensures .0) (l .inv .0))))
-    (λ c. let l = c .before .loop2 in meters-end _ _ (l .k) (l .all) (l .inv .2) (c .loop2-test .left) (l .inv .1)))
+    (λ c. (search needs, search needs, search (needs, meter-more, not-loaded)))
+    (λ c. search (needs, meters-end)))

@@ -1,6 +1,6 @@
 -- `ledger::range::octets_off`: both bounds by one difference that wraps, or by a quotient where the products may pass 64 bits.
 use mathlib.Core.Path.{_≡_, refl, sym, _∙_}
-use mathlib.Core.Bool.{Bool, true, false}
+use mathlib.Core.Bool.{Bool, true, false, cond}
 use Prim.Native.Nat.{ℕ, _+_, _*_, _/_, _%_, _^_, _≤_, _<_}
 use native.Mathlib.Omega.{arith}
 use lib.Dec.{ltb}
@@ -11,36 +11,39 @@ use Rattle.ledger.specs.Range.{octetsOff}
 use Rattle.ledger.proofs.range.octets_off.Statement.{statement}
 use Rattle.ledger.proofs.range.octets_off.Tie as tie
 
+-- two tests that hold together
+same : (a b c d : ℕ) → (a < b → c < d) → (b ≤ a → d ≤ c) → ltb a b ≡ ltb c d
+same a b c d f g = by (ltb a b) refl
+  where
+    by : (t : Bool) → t ≡ ltb a b → ltb a b ≡ ltb c d
+    by true e = sym e ∙ sym (lt-ltb c d (f (ltb-true a b (sym e))))
+    by false e = sym e ∙ sym (le-ltb c d (g (ltb-false a b (sym e))))
+
 module _ (count octets : ℕ) (fits : octets < 2 ^ 64) where
   many : 4499205871636476 < count → ltb (octets / 4) count ≡ octetsOff count octets
   unfolding octetsOff
-  many h = by (ltb (octets / 4) count) refl
+  many h = same (octets / 4) count octets (4 * count) (λ l. omega arith) (λ l. omega arith) ∙ first (ltb octets (4 * count)) _ (le-ltb (4100 * count) octets (omega arith))
     where
-      by : (t : Bool) → t ≡ ltb (octets / 4) count → ltb (octets / 4) count ≡ octetsOff count octets
-      by true e = let l : octets / 4 < count = ltb-true _ _ (sym e) in sym e ∙ hit-lt octets (4 * count) _ _ (omega arith)
-      by false e = let l : count ≤ octets / 4 = ltb-false _ _ (sym e) in sym e ∙ pass-lt octets (4 * count) _ _ _ (omega arith) (sym (le-ltb (4100 * count) octets (omega arith)))
+      first : (t y : Bool) → y ≡ false → t ≡ cond t true y
+      first true y e = refl
+      first false y e = sym e
 
   few : (left : ℕ) → count ≤ 4499205871636476 → left < 2 ^ 64 → (left + 4 * count) % 2 ^ 64 ≡ octets → ltb (4096 * count) left ≡ octetsOff count octets
   unfolding octetsOff
-  few left h small e = by (ltb octets (4 * count)) refl (ltb (4096 * count) left) refl
+  few left h small e = by (ltb octets (4 * count)) refl
     where
-      by : (s : Bool) → s ≡ ltb octets (4 * count) → (t : Bool) → t ≡ ltb (4096 * count) left → ltb (4096 * count) left ≡ octetsOff count octets
-      by true p t q = let l : octets < 4 * count = ltb-true _ _ (sym p) in lt-ltb (4096 * count) left (omega arith) ∙ hit-lt octets (4 * count) _ _ l
-      by false p true q =
+      by : (t : Bool) → t ≡ ltb octets (4 * count) → ltb (4096 * count) left ≡ octetsOff count octets
+      by true p = let l : octets < 4 * count = ltb-true _ _ (sym p) in lt-ltb (4096 * count) left (omega arith) ∙ hit-lt octets (4 * count) _ _ l
+      by false p =
           let l : 4 * count ≤ octets = ltb-false _ _ (sym p) in
-          let r : 4096 * count < left = ltb-true _ _ (sym q) in
-          sym q ∙ pass-lt octets (4 * count) _ _ _ l (sym (lt-ltb (4100 * count) octets (omega arith)))
-      by false p false q =
-          let l : 4 * count ≤ octets = ltb-false _ _ (sym p) in
-          let r : left ≤ 4096 * count = ltb-false _ _ (sym q) in
-          sym q ∙ pass-lt octets (4 * count) _ _ _ l (sym (le-ltb (4100 * count) octets (omega arith)))
+          pass-lt octets (4 * count) _ _ _ l (same (4096 * count) left (4100 * count) octets (λ r. omega arith) (λ r. omega arith))
 
 pub octets-off-spec : {M : Type 1} → statement M
 octets-off-spec =
     tie.close
     (tie.spec
-    (λ c. many _ _ (c .before .fits .octets .fits) (c .if1 .taken))
+    (λ c. search (needs, many))
     (λ c. search needs)
     (λ c. search needs)
     (λ c κs. search needs)
-    (λ c. few _ _ (c .before .before .fits .octets .fits) _ (c .before .if1 .left) (search needs) (c .wrapping-sub-u64 .ensures)))
+    (λ c. search (needs, few)))

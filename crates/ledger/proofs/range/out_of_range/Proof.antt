@@ -10,10 +10,10 @@ out-of-range-spec =
     tie.close
     (tie.spec
     (λ c. search needs)
-    (λ c. as-asked _ _ _ (search (needs, chain) depth 40))
+    (λ c. search (needs, as-asked, chain) depth 40)
     (λ c κs. search needs)
-    (λ c. as-asked _ _ _ (search (needs, chain) depth 40))
+    (λ c. search (needs, as-asked, chain) depth 40)
     (λ c κs. search needs)
-    (λ c. as-asked _ _ _ (search (needs, chain) depth 40))
+    (λ c. search (needs, as-asked, chain) depth 40)
     (λ c κs. search needs)
-    (λ c. as-asked _ _ _ (search (needs, chain) depth 40)))
+    (λ c. search (needs, as-asked, chain) depth 40))

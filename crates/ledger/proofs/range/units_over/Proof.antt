@@ -31,7 +31,5 @@ units-over-spec =
     (λ c κs. search needs)
     (λ c. search needs)
     (λ c. search needs)
-    (λ c.
-    let l = c .before .before .before .before .loop in
-    (omega arith, tells-more _ (l .j) (l .all) _ (l .inv .1) (tells-of _ _ _ _ (c .before .before .part-spc .ensures .0) (c .above .ensures))))
-    (λ c. let l = c .before .loop in tells-end _ 8 (l .j) (l .all) (l .inv .1) (c .loop-test .left) (l .inv .0)))
+    (λ c. (search needs, search (needs, tells-more, tells-of)))
+    (λ c. search (needs, tells-end)))
