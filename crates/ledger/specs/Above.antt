@@ -1,8 +1,8 @@
--- Numbers or-ed whose top bit tells: it is set as soon as one of the values is above its most. And 39's clauses in the order in which they are asked.
+-- How 39 is asked: numbers are or-ed whose top bit tells that a value is above its most, and the clauses have an order of their own.
 use mathlib.Core.Path.{_≡_, refl, sym, _∙_, ap, subst}
 use mathlib.Core.Bool.{Bool, true, false, cond, _||_}
 use mathlib.Core.List.{List}
-use Prim.Native.Nat.{ℕ, zero, suc, _+_, _*_, _/_, _%_, _^_, _<_, _≤_}
+use Prim.Native.Nat.{ℕ, zero, suc, _+_, _/_, _%_, _^_, _<_, _≤_}
 use native.Mathlib.Nat.{le-antisymm}
 use native.Mathlib.Omega.{arith}
 use lib.Bits.{bitOr, or-shr}
@@ -18,7 +18,7 @@ use Rattle.ledger.specs.Range.{latest, unitsOver, fullOf, creditOver, ti
 pub record Tells (b : Bool) (x : ℕ) : Type 0 where
   pub top : x / 2 ^ 63 ≡ flag b
 
--- a difference that wraps, or-ed with what was taken away
+-- a difference that wraps, or-ed with what was taken away: v above its most
 pub tells-above : (most v less : ℕ) → most < 2 ^ 63 → v < 2 ^ 64 → less < 2 ^ 64 → (less + v) % 2 ^ 64 ≡ most → Tells (ltb most v) (bitOr less v)
 tells-above most v less m lv ll e = record { top = or-shr less v 63 ∙ by (less / 2 ^ 63) (v / 2 ^ 63) refl refl }
   where
@@ -31,7 +31,7 @@ tells-above most v less m lv ll e = record { top = or-shr less v 63 ∙ by (less
     by zero (suc (suc y)) p q = absurd (omega arith)
     by (suc zero) (suc (suc y)) p q = absurd (omega arith)
 
--- the same of what a call says that most is
+-- and of what a call says that its most is
 pub tells-of : (most f v x : ℕ) → most ≡ f → Tells (ltb most v) x → Tells (ltb f v) x
 tells-of most f v x e t = subst (λ (m : ℕ). Tells (ltb m v) x) e t
 
@@ -78,7 +78,7 @@ some-either (suc n) p q = ap (λ (t : Bool). t || (p n || q n)) (some-either n p
 abbrev pub meterOver : List ℕ → ℕ → ℕ → Bool
 meterOver g k most = ltb most (cell g credit k) || ltb (cell g last 0) (cell g since k)
 
--- and of its own most
+-- held to what it holds when it is full
 unfoldable pub meterOff : List ℕ → List ℕ → ℕ → Bool
 meterOff image g k = meterOver g k (fullOf image k)
 

@@ -27,7 +27,7 @@ pub const LATEST: u64 = 281474976710655;
 // The most frames of which 4,100 octets each fit in 64 bits.
 const MANY: u64 = 4499205871636476;
 
-// A number whose top bit is set exactly where v is above `most`. Such numbers are or-ed, so that a loop over them has no branch.
+// A number whose top bit is set exactly where v is above `most`: a loop ors such numbers, without a branch, and tests one.
 fn above(most: u64, v: u64) -> u64
     requires { ⌜ most < 2 ^ 63 ⌝ }
     ensures { λ r. ⌜ Tells (ltb most v) r ⌝ }
@@ -68,7 +68,7 @@ fn meter_over(row: &[u64; CELLS], k: usize, most: u64) -> u64
     above(most, row[CREDIT + k]) | above(row[LAST], row[SINCE + k])
 }
 
-// Some meter does, those with an entry first: the others hold nothing when they are full.
+// A meter holds more than when it is full, or was set after the last time: those with an entry first, then the others, which hold nothing when they are full.
 fn meters_over(image: &[u32], row: &[u64; CELLS]) -> bool
     requires { ⌜ Sound (now image) × (cell (now row) last 0 ≤ latest) ⌝ }
     ensures { λ r. ⌜ r ≡ (creditOver (imageIn (now (image .entry))) (now (row .entry)) || timesOver (now (row .entry))) ⌝ }
@@ -87,8 +87,8 @@ fn meters_over(image: &[u32], row: &[u64; CELLS]) -> bool
     all >> 63 == 1
 }
 
-// Octets that so many frames cannot have. Up to 2^64 / 4,100 frames one comparison tells both: fewer octets than 4 a frame wrap to more than any such
-// number has. More frames than that have too few octets or no more than the most.
+// Octets that so many frames cannot have. Fewer than 4 a frame wrap to more than 4,096 a frame, as long as 4,100 a frame fit in 64 bits: one comparison
+// then tells both bounds. For more frames than that no octets are too many.
 fn octets_off(count: u64, octets: u64) -> bool
     ensures { λ r. ⌜ r ≡ octetsOff count octets ⌝ }
 {

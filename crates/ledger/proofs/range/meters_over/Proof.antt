@@ -1,6 +1,5 @@
 -- `ledger::range::meters_over`: the meters with an entry, then the others.
-use Prim.Native.Nat.{ℕ, _-_, _≤_}
-use native.Mathlib.Omega.{arith}
+use Prim.Native.Nat.{_-_, _≤_}
 use borrow.Author.Needs.{needs}
 use Rattle.laws.specs.Scan.{some-below}
 use Rattle.image.specs.Layout.{imageIn}

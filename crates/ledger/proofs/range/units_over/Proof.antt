@@ -1,6 +1,5 @@
 -- `ledger::range::units_over`: the top bit is set as soon as a partition has more units than its space.
-use Prim.Native.Nat.{ℕ, _-_, _≤_, _<_}
-use native.Mathlib.Omega.{arith}
+use Prim.Native.Nat.{_-_, _≤_}
 use lib.Dec.{ltb}
 use borrow.Author.Needs.{needs}
 use Rattle.laws.specs.Scan.{some-below}
