@@ -2,6 +2,7 @@
 pub mod Row
 pub mod Range
 pub mod Laws
+pub mod Above
 pub mod Answers
 pub mod Fresh
 pub mod Release

@@ -12,27 +12,41 @@ use crate::PORTS;
 use crate::SINCE;
 use crate::UNITS;
 ghost use mathlib.Core.Path.{_≡_};
-ghost use Prim.Native.Nat.{_<_, _≤_, _*_};
+ghost use mathlib.Core.Bool.{_||_};
+ghost use Prim.Native.Nat.{_<_, _≤_, _^_};
+ghost use lib.Dec.{ltb};
 ghost use Rattle.image.specs.Layout.{imageIn};
 ghost use Rattle.image.specs.Sound.{Sound};
-ghost use Rattle.ledger.specs.Range.{unitsOver, fullOf, creditOver, octetsOff, countsOff, tilesOff, timesOver, outOfRange, unloaded, standing};
+ghost use Rattle.ledger.specs.Row.{credit, last, many, cell};
+ghost use Rattle.ledger.specs.Above.{Tells, meterOver};
+ghost use Rattle.ledger.specs.Range.{latest, unitsOver, fullOf, creditOver, octetsOff, countsOff, tilesOff, timesOver, outOfRange, unloaded, standing};
 
 // The latest time, 2^48 - 1 µs.
 pub const LATEST: u64 = 281474976710655;
+
+// The most frames of which 4,100 octets each fit in 64 bits.
+const MANY: u64 = 4499205871636476;
+
+// A number whose top bit is set exactly where v is above `most`: a loop ors such numbers, without a branch, and tests one.
+fn above(most: u64, v: u64) -> u64
+    requires { ⌜ most < 2 ^ 63 ⌝ }
+    ensures { λ r. ⌜ Tells (ltb most v) r ⌝ }
+{
+    std::num::wrapping_sub_u64(most, v) | v
+}
 
 // A partition has more units left than its PART_SPC.
 fn units_over(image: &[u32], row: &[u64; CELLS]) -> bool
     requires { ⌜ Sound (now image) ⌝ }
     ensures { λ r. ⌜ r ≡ unitsOver (imageIn (now (image .entry))) (now (row .entry)) ⌝ }
 {
+    let mut all: u64 = 0;
     let mut j: usize = 0;
     while j < PARTITIONS {
-        if image::parameters::part_spc(image, j) < row[UNITS + j] {
-            return true;
-        }
+        all = all | above(image::parameters::part_spc(image, j), row[UNITS + j]);
         j += 1;
     }
-    false
+    all >> 63 == 1
 }
 
 // What meter k holds when it is full; nothing where its entry is not loaded.
@@ -46,32 +60,42 @@ pub fn full(image: &[u32], k: usize) -> u64
     0
 }
 
-// A meter holds more than it does when it is full.
-fn credit_over(image: &[u32], row: &[u64; CELLS]) -> bool
-    requires { ⌜ Sound (now image) ⌝ }
-    ensures { λ r. ⌜ r ≡ creditOver (imageIn (now (image .entry))) (now (row .entry)) ⌝ }
+// Meter k holds more than `most`, or was set after the last time.
+fn meter_over(row: &[u64; CELLS], k: usize, most: u64) -> u64
+    requires { ⌜ (k < many credit) × (most < 2 ^ 63) × (cell (now row) last 0 ≤ latest) ⌝ }
+    ensures { λ r. ⌜ Tells (meterOver (now (row .entry)) k most) r ⌝ }
 {
-    let mut k: usize = 0;
-    while k < METERS {
-        if full(image, k) < row[CREDIT + k] {
-            return true;
-        }
-        k += 1;
-    }
-    false
+    above(most, row[CREDIT + k]) | above(row[LAST], row[SINCE + k])
 }
 
-// Octets that so many frames cannot have. Both products may pass 64 bits, so the octets are divided instead.
+// A meter holds more than when it is full, or was set after the last time: those with an entry first, then the others, which hold nothing when they are full.
+fn meters_over(image: &[u32], row: &[u64; CELLS]) -> bool
+    requires { ⌜ Sound (now image) × (cell (now row) last 0 ≤ latest) ⌝ }
+    ensures { λ r. ⌜ r ≡ (creditOver (imageIn (now (image .entry))) (now (row .entry)) || timesOver (now (row .entry))) ⌝ }
+{
+    let entries = image::counts::count(image, 1);
+    let mut all: u64 = 0;
+    let mut k: usize = 0;
+    while k < entries {
+        all = all | meter_over(row, k, full(image, k));
+        k += 1;
+    }
+    while k < METERS {
+        all = all | meter_over(row, k, 0);
+        k += 1;
+    }
+    all >> 63 == 1
+}
+
+// Octets that so many frames cannot have. Fewer than 4 a frame wrap to more than 4,096 a frame, as long as 4,100 a frame fit in 64 bits: one comparison
+// then tells both bounds. For more frames than that no octets are too many.
 fn octets_off(count: u64, octets: u64) -> bool
     ensures { λ r. ⌜ r ≡ octetsOff count octets ⌝ }
 {
-    if octets / 4 < count {
-        return true;
+    if MANY < count {
+        return octets / 4 < count;
     }
-    if octets == 0 {
-        return false;
-    }
-    count <= (octets - 1) / 4100
+    4096 * count < std::num::wrapping_sub_u64(octets, 4 * count)
 }
 
 // A tile's counts that no frames give.
@@ -108,38 +132,21 @@ fn tiles_off(row: &[u64; CELLS]) -> bool
     false
 }
 
-// A meter was set after the last time.
-fn times_over(row: &[u64; CELLS]) -> bool
-    ensures { λ r. ⌜ r ≡ timesOver (now (row .entry)) ⌝ }
-{
-    let mut k: usize = 0;
-    while k < METERS {
-        if row[LAST] < row[SINCE + k] {
-            return true;
-        }
-        k += 1;
-    }
-    false
-}
-
 // 39
 pub fn out_of_range(image: &[u32], row: &[u64; CELLS]) -> bool
     requires { ⌜ Sound (now image) ⌝ }
     ensures { λ r. ⌜ r ≡ outOfRange (imageIn (now (image .entry))) (now (row .entry)) ⌝ }
 {
-    if units_over(image, row) {
+    if LATEST < row[LAST] {
         return true;
     }
-    if credit_over(image, row) {
+    if units_over(image, row) {
         return true;
     }
     if tiles_off(row) {
         return true;
     }
-    if times_over(row) {
-        return true;
-    }
-    LATEST < row[LAST]
+    meters_over(image, row)
 }
 
 // 31, 30; 0 where neither refuses.

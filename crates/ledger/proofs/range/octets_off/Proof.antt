@@ -1,46 +1,49 @@
--- `ledger::range::octets_off`: a quotient below the count is a product above the octets.
+-- `ledger::range::octets_off`: both bounds by one difference that wraps, or by a quotient where the products may pass 64 bits.
 use mathlib.Core.Path.{_≡_, refl, sym, _∙_}
-use mathlib.Core.Bool.{Bool, true, false}
-use Prim.Native.Nat.{ℕ, _*_, _≤_, _<_, _-_, _/_}
+use mathlib.Core.Bool.{Bool, true, false, cond}
+use Prim.Native.Nat.{ℕ, _+_, _*_, _/_, _%_, _^_, _≤_, _<_}
 use native.Mathlib.Omega.{arith}
-use lib.Dec.{ltb, leb}
+use lib.Dec.{ltb}
 use borrow.Author.Needs.{needs}
-use borrow.Author.Tests.{lt-ltb, le-ltb, leb-true, leb-false}
+use borrow.Author.Tests.{lt-ltb, le-ltb, ltb-true, ltb-false}
 use Rattle.laws.specs.Chain.{hit-lt, pass-lt}
 use Rattle.ledger.specs.Range.{octetsOff}
 use Rattle.ledger.proofs.range.octets_off.Statement.{statement}
 use Rattle.ledger.proofs.range.octets_off.Tie as tie
 
-module _ (count octets : ℕ) where
-  -- the quotient's test is the product's
-  beyond : (octets ≡ 0 → ⊥) → leb count ((octets - 1) / 4100) ≡ ltb (4100 * count) octets
-  beyond h = by (leb count ((octets - 1) / 4100)) refl
+-- two tests that hold together
+same : (a b c d : ℕ) → (a < b → c < d) → (b ≤ a → d ≤ c) → ltb a b ≡ ltb c d
+same a b c d f g = by (ltb a b) refl
+  where
+    by : (t : Bool) → t ≡ ltb a b → ltb a b ≡ ltb c d
+    by true e = sym e ∙ sym (lt-ltb c d (f (ltb-true a b (sym e))))
+    by false e = sym e ∙ sym (le-ltb c d (g (ltb-false a b (sym e))))
+
+module _ (count octets : ℕ) (fits : octets < 2 ^ 64) where
+  many : 4499205871636476 < count → ltb (octets / 4) count ≡ octetsOff count octets
+  unfolding octetsOff
+  many h = same (octets / 4) count octets (4 * count) (λ l. omega arith) (λ l. omega arith) ∙ first (ltb octets (4 * count)) _ (le-ltb (4100 * count) octets (omega arith))
     where
-      by : (t : Bool) → t ≡ leb count ((octets - 1) / 4100) → leb count ((octets - 1) / 4100) ≡ ltb (4100 * count) octets
-      by true e =
-          let l : count ≤ (octets - 1) / 4100 = leb-true _ _ (sym e) in
-          sym e ∙ sym (lt-ltb (4100 * count) octets (omega arith))
-      by false e =
-          let l : (octets - 1) / 4100 < count = leb-false _ _ (sym e) in
-          sym e ∙ sym (le-ltb (4100 * count) octets (omega arith))
+      first : (t y : Bool) → y ≡ false → t ≡ cond t true y
+      first true y e = refl
+      first false y e = sym e
 
-  few : octets / 4 < count → true ≡ octetsOff count octets
+  few : (left : ℕ) → count ≤ 4499205871636476 → left < 2 ^ 64 → (left + 4 * count) % 2 ^ 64 ≡ octets → ltb (4096 * count) left ≡ octetsOff count octets
   unfolding octetsOff
-  few h = hit-lt octets (4 * count) _ _ (omega arith)
-
-  empty : count ≤ octets / 4 → octets ≡ 0 → false ≡ octetsOff count octets
-  unfolding octetsOff
-  empty h e = pass-lt octets (4 * count) _ _ _ (omega arith) (sym (le-ltb (4100 * count) octets (omega arith)))
-
-  rest : count ≤ octets / 4 → (octets ≡ 0 → ⊥) → leb count ((octets - 1) / 4100) ≡ octetsOff count octets
-  unfolding octetsOff
-  rest h e = pass-lt octets (4 * count) _ _ _ (omega arith) (beyond e)
+  few left h small e = by (ltb octets (4 * count)) refl
+    where
+      by : (t : Bool) → t ≡ ltb octets (4 * count) → ltb (4096 * count) left ≡ octetsOff count octets
+      by true p = let l : octets < 4 * count = ltb-true _ _ (sym p) in lt-ltb (4096 * count) left (omega arith) ∙ hit-lt octets (4 * count) _ _ l
+      by false p =
+          let l : 4 * count ≤ octets = ltb-false _ _ (sym p) in
+          pass-lt octets (4 * count) _ _ _ l (same (4096 * count) left (4100 * count) octets (λ r. omega arith) (λ r. omega arith))
 
 pub octets-off-spec : {M : Type 1} → statement M
 octets-off-spec =
     tie.close
     (tie.spec
-    (λ c. few _ _ (c .if1 .taken))
-    (λ c. empty _ _ (c .before .if1 .left) (c .if2 .taken))
+    (λ c. search (needs, many))
     (λ c. search needs)
-    (λ c. rest _ _ (c .before .if1 .left) (c .if2 .left)))
+    (λ c. search needs)
+    (λ c κs. search needs)
+    (λ c. search (needs, few)))
