@@ -1,61 +1,23 @@
--- A ledger, a verdict and a tile as numbers, and what the entries for frames answer.
-use mathlib.Core.Path.{_≡_, refl}
-use mathlib.Core.Bool.{cond}
+-- A verdict and a tile as numbers, and what the entries for frames answer and leave: the ledger is the row itself.
+use mathlib.Core.Path.{_≡_, sym, _∙_, ap}
 use mathlib.Core.List.{List}
 use Prim.Native.Nat.{ℕ}
-use lib.Dec.{eqb}
-use Rattle.image.specs.Layout.{imageIn}
-use Rattle.ledger.specs.declared.Ledger.{Ledger}
-use Rattle.ledger.specs.Fresh.{unloaded, freshOf, noLedger}
-use Rattle.ledger.specs.Release.{releaseRefusal, released}
+use Rattle.ledger.specs.declared.Answer.{Answer}
+use Rattle.ledger.specs.Answers.{numberOf}
+use Rattle.ledger.specs.Range.{unloaded}
+use Rattle.ledger.specs.Fresh.{freshened, Freshened}
+use Rattle.ledger.specs.Release.{releaseRefusal, released, Released}
 use Rattle.ports.specs.declared.Sending.{Sending}
-use Rattle.judge.specs.declared.Verdict.{Verdict}
-use Rattle.judge.specs.declared.Verdict.the-variants.{Refused, Drop, Sent}
-use Rattle.judge.specs.declared.Judged.{Judged}
+use Rattle.judge.specs.declared.settle.Verdict.{Verdict}
+use Rattle.judge.specs.declared.settle.Verdict.the-variants.{Refused, Drop, Sent}
+use Rattle.judge.specs.Judge.{judgeOf, Judges}
 use Rattle.tile.specs.declared.shares.Tile.{Tile}
 use Rattle.tile.specs.declared.shares.Tile.the-variants.{NotLoaded, NoFrames, Shares}
 use Rattle.tile.specs.declared.shares.Asked.{Asked}
 use Rattle.tile.specs.declared.shares.Asked.the-variants as asked
-use Rattle.tile.specs.Tiles.{bitsOf}
-use Rattle.tailbow_c.specs.declared.frames.FlatLedger.{FlatLedger}
-use Rattle.tailbow_c.specs.declared.frames.FlatOutcome.{FlatOutcome}
+use Rattle.tile.specs.Tiles.{bitsOf, askedOf, Tiled}
 use Rattle.tailbow_c.specs.declared.frames.FlatVerdict.{FlatVerdict}
-use Rattle.tailbow_c.specs.declared.frames.FlatJudged.{FlatJudged}
 use Rattle.tailbow_c.specs.declared.frames.FlatTile.{FlatTile}
-
--- ---- a ledger, number for number, there and back
-abbrev pub flatLedger : Ledger → FlatLedger
-flatLedger g =
-    record {
-      units = g .units;
-      credit = g .credit;
-      since = g .since;
-      frames = g .frames;
-      drops = g .drops;
-      octets = g .octets;
-      dropped = g .dropped;
-      last = g .last;
-    }
-
-abbrev pub ledgerOf : FlatLedger → Ledger
-ledgerOf f =
-    record {
-      units = f .units;
-      credit = f .credit;
-      since = f .since;
-      frames = f .frames;
-      drops = f .drops;
-      octets = f .octets;
-      dropped = f .dropped;
-      last = f .last;
-    }
-
--- every flat ledger is a ledger, and none is lost
-pub there : (g : Ledger) → ledgerOf (flatLedger g) ≡ g
-there g = refl
-
-pub back : (f : FlatLedger) → flatLedger (ledgerOf f) ≡ f
-back f = refl
 
 -- ---- a verdict: its kind, its number, its values
 abbrev pub unsent : ℕ → ℕ → FlatVerdict
@@ -95,9 +57,6 @@ flatVerdict (Refused n) = unsent 0 n
 flatVerdict (Drop n) = unsent 1 n
 flatVerdict (Sent s) = sent s
 
-abbrev pub flatJudged : Judged → FlatJudged
-flatJudged j = record { verdict = flatVerdict (j .verdict); ledger = flatLedger (j .ledger) }
-
 -- ---- a tile: its kind, its number, the bits of its shares
 abbrev pub shown : ℕ → ℕ → ℕ → ℕ → FlatTile
 shown kind number share octets = record { kind = kind; number = number; share = share; octets = octets }
@@ -111,13 +70,56 @@ abbrev pub flatTile : Asked → FlatTile
 flatTile (asked.Refused n) = shown 0 n 0 0
 flatTile (asked.Shown t) = flatShown t
 
--- ---- a fresh ledger and a release: the refusal's number, 0 for none, and the ledger afterwards
-abbrev pub flatOutcome : ℕ → Ledger → FlatOutcome
-flatOutcome n g = record { number = n; ledger = flatLedger g }
+pub shown-as : (a b c d : ℕ) → a ≡ b → c ≡ d → shown 3 0 a c ≡ shown 3 0 b d
+shown-as a b c d e h = ap (λ (x : ℕ). shown 3 0 x c) e ∙ ap (λ (x : ℕ). shown 3 0 b x) h
 
-abbrev pub freshFlat : List ℕ → FlatOutcome
-freshFlat buffer = flatOutcome (unloaded buffer) (cond (eqb (unloaded buffer) 0) (freshOf (imageIn buffer)) noLedger)
+-- ---- the promises, and that each permits one outcome
 
-abbrev pub releasedFlat : List ℕ → Ledger → ℕ → FlatOutcome
-releasedFlat buffer g partition =
-    flatOutcome (releaseRefusal buffer g partition) (cond (eqb (releaseRefusal buffer g partition) 0) (released g partition) g)
+-- a fresh ledger: the refusal's number, 0 for none, and the row that it fills
+pub record FreshensFlat (buffer : List ℕ) (r : ℕ) (after : List ℕ) : Type 0 where
+  pub number : r ≡ unloaded buffer
+  pub row : after ≡ freshened buffer
+
+pub freshens : (buffer : List ℕ) (a : Answer) (r : ℕ) (after : List ℕ) → Freshened buffer a after → r ≡ numberOf a → FreshensFlat buffer r after
+freshens buffer a r after p e = record { number = e ∙ p .number; row = p .row }
+
+pub one-fresh : (buffer : List ℕ) (r s : ℕ) (a b : List ℕ) → FreshensFlat buffer r a → FreshensFlat buffer s b → (r ≡ s) × (a ≡ b)
+one-fresh buffer r s a b p q = (p .number ∙ sym (q .number), p .row ∙ sym (q .row))
+
+-- a frame: the verdict's numbers, and the row
+pub record JudgesFlat (buffer g : List ℕ) (port time : ℕ) (frame : List ℕ) (r : FlatVerdict) (after : List ℕ) : Type 0 where
+  pub verdict : r ≡ flatVerdict (judgeOf buffer g port time frame .verdict)
+  pub row : after ≡ judgeOf buffer g port time frame .row
+
+pub judges : (buffer g : List ℕ) (port time : ℕ) (frame : List ℕ) (v : Verdict) (r : FlatVerdict) (after : List ℕ) → Judges buffer g port time frame v after
+    → r ≡ flatVerdict v
+    → JudgesFlat buffer g port time frame r after
+judges buffer g port time frame v r after p e = record { verdict = e ∙ ap flatVerdict (p .verdict); row = p .row }
+
+pub one-judged : (buffer g : List ℕ) (port time : ℕ) (frame : List ℕ) (r s : FlatVerdict) (a b : List ℕ) → JudgesFlat buffer g port time frame r a
+    → JudgesFlat buffer g port time frame s b
+    → (r ≡ s) × (a ≡ b)
+one-judged buffer g port time frame r s a b p q = (p .verdict ∙ sym (q .verdict), p .row ∙ sym (q .row))
+
+-- a release: the refusal's number, 0 for none, and the row
+pub record ReleasesFlat (buffer g : List ℕ) (partition r : ℕ) (after : List ℕ) : Type 0 where
+  pub number : r ≡ releaseRefusal buffer g partition
+  pub row : after ≡ released buffer g partition
+
+pub releases : (buffer g : List ℕ) (partition : ℕ) (a : Answer) (r : ℕ) (after : List ℕ) → Released buffer g partition a after → r ≡ numberOf a
+    → ReleasesFlat buffer g partition r after
+releases buffer g partition a r after p e = record { number = e ∙ p .number; row = p .row }
+
+pub one-released : (buffer g : List ℕ) (partition r s : ℕ) (a b : List ℕ) → ReleasesFlat buffer g partition r a → ReleasesFlat buffer g partition s b
+    → (r ≡ s) × (a ≡ b)
+one-released buffer g partition r s a b p q = (p .number ∙ sym (q .number), p .row ∙ sym (q .row))
+
+-- a tile: its numbers; the row is only read
+pub record TilesFlat (buffer g : List ℕ) (port : ℕ) (r : FlatTile) : Type 0 where
+  pub tile : r ≡ flatTile (askedOf buffer g port)
+
+pub tiles : (buffer g : List ℕ) (port : ℕ) (a : Asked) (r : FlatTile) → Tiled buffer g port a → r ≡ flatTile a → TilesFlat buffer g port r
+tiles buffer g port a r p e = record { tile = e ∙ ap flatTile (p .whole) }
+
+pub one-tile : (buffer g : List ℕ) (port : ℕ) (r s : FlatTile) → TilesFlat buffer g port r → TilesFlat buffer g port s → r ≡ s
+one-tile buffer g port r s p q = p .tile ∙ sym (q .tile)

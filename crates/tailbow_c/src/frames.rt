@@ -1,35 +1,13 @@
-// The entries for frames: a ledger, a verdict and a tile as structs of numbers. Every flat ledger is a ledger: 39 judges it.
-use judge::Verdict;
+// The entries for frames: the ledger is a lent row of numbers, a verdict and a tile are structs of numbers. Every row is a ledger: 39 judges it.
+use judge::settle::Verdict;
 use ledger::Answer;
-use ledger::Ledger;
+use ledger::CELLS;
 use tile::shares::Asked;
 use tile::shares::Tile;
 ghost use mathlib.Core.Path.{_≡_};
 ghost use Prim.Native.Nat.{_<_};
 ghost use Rattle.ledger.specs.Answers.{numberOf};
-ghost use Rattle.judge.specs.Judge.{judgeOf};
-ghost use Rattle.tile.specs.Tiles.{askedOf};
-ghost use Rattle.tailbow_c.specs.Frames.{flatLedger, ledgerOf, flatVerdict, flatShown, flatTile, freshFlat, releasedFlat, flatJudged};
-
-// A ledger as numbers, in the order and the units of `ledger::Ledger`.
-#[repr(C)]
-pub struct FlatLedger {
-    pub units: [u64; 8],
-    pub credit: [u64; 45],
-    pub since: [u64; 45],
-    pub frames: [u64; 5],
-    pub drops: [u64; 5],
-    pub octets: [u64; 5],
-    pub dropped: [u64; 5],
-    pub last: u64,
-}
-
-// The refusal's number, 0 for none, and the ledger afterwards.
-#[repr(C)]
-pub struct FlatOutcome {
-    pub number: u32,
-    pub ledger: FlatLedger,
-}
+ghost use Rattle.tailbow_c.specs.Frames.{flatVerdict, flatShown, flatTile, FreshensFlat, JudgesFlat, ReleasesFlat, TilesFlat};
 
 // `kind`: 0 refused and 1 dropped, with the `number`; 2 sent, with the values, which are 0 before.
 #[repr(C)]
@@ -47,12 +25,6 @@ pub struct FlatVerdict {
     pub queue4: u64,
 }
 
-#[repr(C)]
-pub struct FlatJudged {
-    pub verdict: FlatVerdict,
-    pub ledger: FlatLedger,
-}
-
 // `kind`: 0 refused, with the `number`; 1 not-loaded; 2 no-frames; 3 shares, by their bits, which are 0 before.
 #[repr(C)]
 pub struct FlatTile {
@@ -62,51 +34,7 @@ pub struct FlatTile {
     pub octets: u64,
 }
 
-fn flat_ledger(ledger: Ledger) -> FlatLedger
-    ensures { λ r. ⌜ r ≡ flatLedger ledger ⌝ }
-{
-    let units = ledger.units;
-    let credit = ledger.credit;
-    let since = ledger.since;
-    let frames = ledger.frames;
-    let drops = ledger.drops;
-    let octets = ledger.octets;
-    let dropped = ledger.dropped;
-    FlatLedger {
-        units,
-        credit,
-        since,
-        frames,
-        drops,
-        octets,
-        dropped,
-        last: ledger.last,
-    }
-}
-
-fn ledger_of(ledger: FlatLedger) -> Ledger
-    ensures { λ r. ⌜ r ≡ ledgerOf ledger ⌝ }
-{
-    let units = ledger.units;
-    let credit = ledger.credit;
-    let since = ledger.since;
-    let frames = ledger.frames;
-    let drops = ledger.drops;
-    let octets = ledger.octets;
-    let dropped = ledger.dropped;
-    Ledger {
-        units,
-        credit,
-        since,
-        frames,
-        drops,
-        octets,
-        dropped,
-        last: ledger.last,
-    }
-}
-
-pub fn outcome_number(answer: Answer) -> u32
+fn outcome_number(answer: Answer) -> u32
     ensures { λ r. ⌜ r ≡ numberOf answer ⌝ }
 {
     match answer {
@@ -115,7 +43,7 @@ pub fn outcome_number(answer: Answer) -> u32
     }
 }
 
-pub fn flat_verdict(verdict: Verdict) -> FlatVerdict
+fn flat_verdict(verdict: Verdict) -> FlatVerdict
     ensures { λ r. ⌜ r ≡ flatVerdict verdict ⌝ }
 {
     match verdict {
@@ -200,62 +128,44 @@ fn flat_tile(asked: Asked) -> FlatTile
     }
 }
 
-// A fresh ledger of an image.
+// Fills the lent row with a fresh ledger of an image: the refusal's number, 0 for none.
 #[no_mangle]
-pub extern "C" fn tailbow_fresh_ledger(image: &[u32]) -> FlatOutcome
-    ensures { λ r. ⌜ r ≡ freshFlat (now (image .entry)) ⌝ }
+pub extern "C" fn tailbow_fresh_ledger(image: &[u32], ledger: &mut [u64; CELLS]) -> u32
+    ensures { λ r. ⌜ FreshensFlat (now (image .entry)) r (now (ledger .exit)) ⌝ }
 {
-    let outcome = ledger::fresh::fresh_ledger(image);
-    let answer = outcome.answer;
-    let after = outcome.ledger;
-    FlatOutcome {
-        number: outcome_number(answer),
-        ledger: flat_ledger(after),
-    }
+    outcome_number(ledger::fresh::fresh_ledger(image, ledger))
 }
 
 // A frame that came in at a port at a time in µs.
 #[no_mangle]
 pub extern "C" fn tailbow_judge(
     image: &[u32],
-    ledger: FlatLedger,
+    ledger: &mut [u64; CELLS],
     port: usize,
     time: u64,
     frame: &[u8],
-) -> FlatJudged
-    ensures { λ r. ⌜ r ≡ flatJudged (judgeOf (now (image .entry)) (ledgerOf ledger) port time (now (frame .entry))) ⌝ }
+) -> FlatVerdict
+    ensures { λ r. ⌜ JudgesFlat (now (image .entry)) (now (ledger .entry)) port time (now (frame .entry)) r (now (ledger .exit)) ⌝ }
 {
-    let judged = judge::judge(image, ledger_of(ledger), port, time, frame);
-    let verdict = judged.verdict;
-    let after = judged.ledger;
-    FlatJudged {
-        verdict: flat_verdict(verdict),
-        ledger: flat_ledger(after),
-    }
+    flat_verdict(judge::judge(image, ledger, port, time, frame))
 }
 
-// One unit of a partition comes back.
+// One unit of a partition comes back: the refusal's number, 0 for none.
 #[no_mangle]
 pub extern "C" fn tailbow_release(
     image: &[u32],
-    ledger: FlatLedger,
+    ledger: &mut [u64; CELLS],
     partition: usize,
-) -> FlatOutcome
-    ensures { λ r. ⌜ r ≡ releasedFlat (now (image .entry)) (ledgerOf ledger) partition ⌝ }
+) -> u32
+    ensures { λ r. ⌜ ReleasesFlat (now (image .entry)) (now (ledger .entry)) partition r (now (ledger .exit)) ⌝ }
 {
-    let outcome = ledger::units::release(image, ledger_of(ledger), partition);
-    let answer = outcome.answer;
-    let after = outcome.ledger;
-    FlatOutcome {
-        number: outcome_number(answer),
-        ledger: flat_ledger(after),
-    }
+    outcome_number(ledger::units::release(image, ledger, partition))
 }
 
 // What the screen shows of a port.
 #[no_mangle]
-pub extern "C" fn tailbow_tile(image: &[u32], ledger: FlatLedger, port: usize) -> FlatTile
-    ensures { λ r. ⌜ r ≡ flatTile (askedOf (now (image .entry)) (ledgerOf ledger) port) ⌝ }
+pub extern "C" fn tailbow_tile(image: &[u32], ledger: &[u64; CELLS], port: usize) -> FlatTile
+    ensures { λ r. ⌜ TilesFlat (now (image .entry)) (now (ledger .entry)) port r ⌝ }
 {
-    flat_tile(tile::tile(image, ledger_of(ledger), port))
+    flat_tile(tile::tile(image, ledger, port))
 }

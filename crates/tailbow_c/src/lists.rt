@@ -2,9 +2,8 @@
 use records::Record;
 ghost use mathlib.Core.Path.{_≡_};
 ghost use Prim.Native.Nat.{_<_};
-ghost use Rattle.records.specs.List.{standsAt};
 ghost use Rattle.records.specs.Answer.{told};
-ghost use Rattle.tailbow_c.specs.Lists.{flatStands};
+ghost use Rattle.tailbow_c.specs.Lists.{flatStands, RecordsFlat};
 
 // `kind`: 0 refused, with the `number`; 1 a frame and 2 a release, as in the list itself; 3 the list's end. A frame's bytes are the `count`
 // bytes from `start` on; `next` is the place after the record. What a kind does not have is 0.
@@ -76,8 +75,7 @@ fn flat_record(stands: Record) -> FlatRecord
 // What stands at a place of a list.
 #[no_mangle]
 pub extern "C" fn tailbow_record_at(list: &[u8], at: usize) -> FlatRecord
-    ensures { λ r. ⌜ r ≡ flatStands (standsAt (now (list .entry)) at) ⌝ }
+    ensures { λ r. ⌜ RecordsFlat (now (list .entry)) at r ⌝ }
 {
-    let stands = records::record_at(list, at);
-    flat_record(stands)
+    flat_record(records::record_at(list, at))
 }

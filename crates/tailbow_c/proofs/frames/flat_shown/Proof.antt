@@ -1,8 +1,7 @@
 -- `tailbow_c::frames::flat_shown`: the kind of each tile, and the bits of shares.
 use mathlib.Core.Path.{sym, ap, _∙_}
 use borrow.Author.Needs.{needs}
-use Rattle.tailbow_c.specs.Frames.{flatShown}
-use Rattle.tailbow_c.proofs.FrameLaws.{shown-as}
+use Rattle.tailbow_c.specs.Frames.{flatShown, shown-as}
 use Rattle.tailbow_c.proofs.frames.flat_shown.Statement.{statement}
 use Rattle.tailbow_c.proofs.frames.flat_shown.Tie as tie
 

@@ -1,5 +1,5 @@
 -- `tailbow_c::frames::flat_tile`: refused, or what the tile shows.
-use mathlib.Core.Path.{sym, ap, _∙_}
+use mathlib.Core.Path.{sym, ap}
 use borrow.Author.Needs.{needs}
 use Rattle.tailbow_c.specs.Frames.{flatTile}
 use Rattle.tailbow_c.proofs.frames.flat_tile.Statement.{statement}
