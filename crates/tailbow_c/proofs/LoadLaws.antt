@@ -24,7 +24,7 @@ use Rattle.loader.specs.Data.{dataPlace}
 use Rattle.loader.specs.Leaves.{Writes, Ends}
 use Rattle.loader.specs.declared.Wrote.{Wrote}
 use Rattle.loader.proofs.Data.{DataWrite, data-write}
-use Rattle.tailbow_c.specs.Flat.{low, high, joined, phaseOf, tableOf, loadIn, isLoad, numbersOf, storedIn}
+use Rattle.tailbow_c.specs.Flat.{low, high, joined, phaseNumber, toldIn, phaseOf, tableOf, loadIn, isLoad, numbersOf, storedIn}
 use Rattle.tailbow_c.specs.Calls.{numberOf, FlatWritten, flattened, asFoundFlat, wroteFlat, WritesFlat, EndsFlat}
 use Rattle.tailbow_c.specs.Round.{joined-halves, put-back, table-kept, of-state}
 use Rattle.tailbow_c.specs.Data.{flatPlace, moved, Fits, Takes}
@@ -51,20 +51,36 @@ pub load-as : (c : List ℕ) (p : Phase) (t : Table) (told first second stream b
     → _≡_ {A = Load} (record { phase = p; table = t; placed = getD c 2 0; due = getD c 3 0; first = first; second = second; stream = stream; block = block }) (loadIn c)
 load-as c p t told first second stream block a b d e f g h = cc
 
+-- ---- and its numbers from theirs
+pub stored-as : (c : List ℕ) (l : Load) (told spare phase table a b d e : ℕ) → told ≡ high (getD c 0 0) → spare ≡ high (getD c 1 0)
+    → phase ≡ phaseNumber (l .phase)
+    → table ≡ indexOf (l .table)
+    → a ≡ joined phase (toldIn told (l .phase))
+    → b ≡ joined table spare
+    → d ≡ joined (l .first) (l .second)
+    → e ≡ joined (l .stream) (l .block)
+    → sets c 0 (a ∷ b ∷ l .placed ∷ l .due ∷ d ∷ e ∷ []) ≡ storedIn c l
+stored-as c l told spare phase table a b d e g h i j k m n o = cc
+
 -- ---- any write
 module _ (c buffer words : List ℕ) where
-  writes-as : (w : FlatWritten) → w ≡ wroteFlat c buffer words → WritesFlat c buffer words (w .answer) (w .numbers) (w .buffer)
-  writes-as w e =
-      record { answer = ap (λ (x : FlatWritten). x .answer) e; state = ap (λ (x : FlatWritten). x .numbers) e; image = ap (λ (x : FlatWritten). x .buffer) e }
+  writes-as : (w : FlatWritten) (r : ℕ) (after kept : List ℕ) → w ≡ wroteFlat c buffer words → r ≡ w .answer → after ≡ w .numbers → kept ≡ w .buffer
+      → WritesFlat c buffer words r after kept
+  writes-as w r after kept e a s k =
+      record {
+        answer = a ∙ ap (λ (x : FlatWritten). x .answer) e;
+        state = s ∙ ap (λ (x : FlatWritten). x .numbers) e;
+        image = k ∙ ap (λ (x : FlatWritten). x .buffer) e;
+      }
 
   pub writes-31 : (short : Bool) → short ≡ tooShort buffer → short ≡ true → WritesFlat c buffer words 31 c buffer
   unfolding wroteFlat
-  writes-31 short e h = writes-as (asFoundFlat 31 c buffer) (hit short (tooShort buffer) _ _ e h)
+  writes-31 short e h = writes-as (asFoundFlat 31 c buffer) _ _ _ (hit short (tooShort buffer) _ _ e h) refl refl refl
 
   pub writes-30 : (short is : Bool) → short ≡ tooShort buffer → short ≡ false → is ≡ isLoad c → not is ≡ true → WritesFlat c buffer words 30 c buffer
   unfolding wroteFlat
   writes-30 short is e h d g =
-      writes-as (asFoundFlat 30 c buffer) (pass short (tooShort buffer) _ _ _ e h (hit (not is) (not (isLoad c)) _ _ (ap not d) g))
+      writes-as (asFoundFlat 30 c buffer) _ _ _ (pass short (tooShort buffer) _ _ _ e h (hit (not is) (not (isLoad c)) _ _ (ap not d) g)) refl refl refl
 
   pub writes-on : (is : Bool) (l : Load) (w : Wrote) (r : ℕ) (after kept : List ℕ) → is ≡ isLoad c → not is ≡ false → l ≡ loadIn c
       → Writes l buffer words w kept
@@ -72,13 +88,11 @@ module _ (c buffer words : List ℕ) where
       → r ≡ numberOf (w .answer)
       → WritesFlat c buffer words r after kept
   writes-on is l w r after kept d g e x s n =
-      let f = of-state c buffer words (sym d ∙ not-false is g) in
       let by : Load → Written = λ m. wrote m buffer words in
-      record {
-        answer = n ∙ ap numberOf (x .answer ∙ ap (λ (m : Load). by m .answer) e) ∙ sym (ap (λ (y : FlatWritten). y .answer) f);
-        state = s ∙ ap (storedIn c) (x .state ∙ ap (λ (m : Load). by m .load) e) ∙ sym (ap (λ (y : FlatWritten). y .numbers) f);
-        image = x .kept ∙ ap (λ (m : Load). by m .buffer) e ∙ sym (ap (λ (y : FlatWritten). y .buffer) f);
-      }
+      writes-as (flattened c (by (loadIn c))) r after kept (sym (of-state c buffer words (sym d ∙ not-false is g)))
+      (n ∙ ap numberOf (x .answer ∙ ap (λ (m : Load). by m .answer) e))
+      (s ∙ ap (storedIn c) (x .state ∙ ap (λ (m : Load). by m .load) e))
+      (x .kept ∙ ap (λ (m : Load). by m .buffer) e)
 
 -- ---- a place in the image: each test has failed
 
@@ -109,14 +123,6 @@ passed c buffer n r e h =
 
 -- ---- what the write leaves
 
-pub record FlatData (c buffer words : List ℕ) (place : ℕ) : Type 0 where
-  pub fits : Fits c buffer words place
-  pub leaves : wroteFlat c buffer words ≡ record {
-    answer = 0xFFFFFFFF;
-    numbers = moved c (length words) (wordsIn (loadIn c .stream) words) (wordsIn (loadIn c .block) words);
-    buffer = sets buffer place words;
-  }
-
 -- a write of one word
 one-word : (words : List ℕ) → length words ≡ 1 → words ≡ getD words 0 0 ∷ []
 one-word [] h = absurd (omega arith)
@@ -137,35 +143,32 @@ module _ (c buffer words : List ℕ) (place : ℕ) (e : place ≡ flatPlace c bu
   is-load = ap (λ (n : ℕ). cond (ltb 5 n) false (ltb (low (getD c 1 0)) 9)) (passes .in-block) ∙ lt-ltb (low (getD c 1 0)) 9 (passes .table)
 
   -- inside a block the phase and the table are stored as they stand
-  stays : (n s b : ℕ) → storedIn c (filling (loadIn c .table) (getD c 2 0 + n) (getD c 3 0 - n) s b) ≡ moved c n s b
+  stays : (n s b : ℕ) → storedIn c (filling (loadIn c .table) (getD c 2 0 + n) (getD c 3 0 - n) s b) ≡ moved c n (joined s b)
   stays n s b =
       let vs : List ℕ = numbersOf c (filling (loadIn c .table) (getD c 2 0 + n) (getD c 3 0 - n) s b) in
       put-back c 0 _ (drop 1 vs) (ap (λ (p : ℕ). joined p (high (getD c 0 0))) (sym (passes .in-block)) ∙ joined-halves (getD c 0 0))
       ∙ put-back c 1 _ (drop 2 vs) (table-kept _ _ (passes .table) ∙ joined-halves (getD c 1 0))
 
-  pub flat-data : FlatData c buffer words place
+  pub flat-data : wroteFlat c buffer words ≡ record {
+    answer = 0xFFFFFFFF;
+    numbers = moved c (length words) (joined (wordsIn (loadIn c .stream) words) (wordsIn (loadIn c .block) words));
+    buffer = sets buffer place words;
+  }
   flat-data =
-      record {
-        fits = record { inside = omega (arith, whole, by-data .inside); due = by-data .fits; placed = omega (arith, by-data .small) };
-        leaves = of-state c buffer words is-load
-            ∙ ap (flattened c) (by-data .leaves)
-            ∙ ap (λ (l : List ℕ). record { answer = 0xFFFFFFFF; numbers = l; buffer = sets buffer place words }) (stays (length words) (wordsIn (loadIn c .stream) words) (wordsIn (loadIn c .block) words));
-      }
+      of-state c buffer words is-load
+      ∙ ap (flattened c) (by-data .leaves)
+      ∙ ap (λ (l : List ℕ). record { answer = 0xFFFFFFFF; numbers = l; buffer = sets buffer place words })
+      (stays (length words) (wordsIn (loadIn c .stream) words) (wordsIn (loadIn c .block) words))
 
+  -- so the words fit, and a write that took them there is the one that is promised
   pub fits-words : Fits c buffer words place
-  fits-words = flat-data .fits
+  fits-words = record { inside = omega (arith, whole, by-data .inside); due = by-data .fits; placed = omega (arith, by-data .small) }
 
   pub fits-word : length words ≡ 1 → Fits c buffer (getD words 0 0 ∷ []) place
   fits-word one = subst (λ (l : List ℕ). Fits c buffer l place) (one-word words one) fits-words
 
-  -- a write that took its words there
   pub writes-words : (r : ℕ) (after kept : List ℕ) → Takes c buffer words place r after kept → WritesFlat c buffer words r after kept
-  writes-words r after kept t =
-      record {
-        answer = t .more ∙ sym (ap (λ (w : FlatWritten). w .answer) (flat-data .leaves));
-        state = t .moves ∙ sym (ap (λ (w : FlatWritten). w .numbers) (flat-data .leaves));
-        image = t .stored ∙ sym (ap (λ (w : FlatWritten). w .buffer) (flat-data .leaves));
-      }
+  writes-words r after kept t = writes-as c buffer words _ r after kept (sym flat-data) (t .more) (t .moves) (t .stored)
 
   pub writes-word : (r : ℕ) (after kept : List ℕ) → length words ≡ 1 → Takes c buffer (getD words 0 0 ∷ []) place r after kept
       → WritesFlat c buffer words r after kept

@@ -20,9 +20,9 @@ flatPlace c buffer n =
     (cond (not (eqb (low (getD c 0 0)) 4)) imageWords
     (cond (ltb 8 (low (getD c 1 0))) imageWords (dataPlace buffer (indexOf (tableOf (low (getD c 1 0)))) (getD c 2 0) (getD c 3 0) n)))
 
--- the numbers after n data words, with these two registers: the first two stay
-abbrev pub moved : List ℕ → ℕ → ℕ → ℕ → List ℕ
-moved c n stream block = sets c 2 ((getD c 2 0 + n) ∷ (getD c 3 0 - n) ∷ 0 ∷ joined stream block ∷ [])
+-- the numbers after n data words: the first two stay, and the last has the two registers
+abbrev pub moved : List ℕ → ℕ → ℕ → List ℕ
+moved c n registers = sets c 2 ((getD c 2 0 + n) ∷ (getD c 3 0 - n) ∷ 0 ∷ registers ∷ [])
 
 -- there is room for data words at a place: in the buffer, among the words due, and in the number of the words placed
 pub record Fits (numbers buffer words : List ℕ) (place : ℕ) : Type 0 where
@@ -33,5 +33,5 @@ pub record Fits (numbers buffer words : List ℕ) (place : ℕ) : Type 0 where
 -- data words at their place: "more", the state moved over them, and the words stored
 pub record Takes (numbers buffer words : List ℕ) (place r : ℕ) (after kept : List ℕ) : Type 0 where
   pub more : r ≡ 0xFFFFFFFF
-  pub moves : after ≡ moved numbers (length words) (wordsIn (loadIn numbers .stream) words) (wordsIn (loadIn numbers .block) words)
+  pub moves : after ≡ moved numbers (length words) (joined (wordsIn (loadIn numbers .stream) words) (wordsIn (loadIn numbers .block) words))
   pub stored : kept ≡ sets buffer place words

@@ -189,7 +189,7 @@ fn sums_of(numbers: &[u64; 6]) -> Both
 // The state after n data words: its first two numbers stay.
 fn move_on(numbers: &mut [u64; 6], n: u64, sums: Both)
     requires { ⌜ (n ≤ getD (now numbers) 3 0) × (getD (now numbers) 2 0 + n < 2 ^ 64) ⌝ }
-    ensures { λ r. ⌜ now (numbers .exit) ≡ moved (now (numbers .entry)) n (sums .stream) (sums .block) ⌝ }
+    ensures { λ r. ⌜ now (numbers .exit) ≡ moved (now (numbers .entry)) n (joined (sums .stream) (sums .block)) ⌝ }
 {
     let placed = numbers[2];
     let due = numbers[3];

@@ -1,5 +1,8 @@
 -- `tailbow_c::loads::move_on`: four stores behind the first two numbers.
+use mathlib.Core.Path.{ap}
 use borrow.Author.Needs.{needs}
+use denote.Ref.{now}
+use Rattle.tailbow_c.specs.Data.{moved}
 use Rattle.tailbow_c.proofs.loads.move_on.Statement.{statement}
 use Rattle.tailbow_c.proofs.loads.move_on.Tie as tie
 
@@ -16,4 +19,4 @@ move-on-spec =
     (λ c. search needs)
     (λ c κs. search needs)
     (λ c. search needs)
-    (λ c. cc))
+    (λ c. let a = c .before .before .before .args in ap (moved (now (a .numbers)) (a .n)) (c .joined .ensures)))
