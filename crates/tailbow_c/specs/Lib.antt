@@ -2,6 +2,7 @@
 pub mod Flat
 pub mod Calls
 pub mod Round
+pub mod Kept
 pub mod Data
 pub mod Frames
 pub mod Lent
