@@ -1,4 +1,3 @@
 -- Laws that several of the entries' proofs cite.
-pub mod Laws
+pub mod LoadLaws
 pub mod FrameLaws
-pub mod Data

@@ -1,16 +1,14 @@
--- What the entries answer and leave, over the forms of `stream`.
-use mathlib.Core.Path.{_≡_}
+-- What the entries for loads answer and leave, over the forms of `stream`. Each promise permits one outcome.
+use mathlib.Core.Path.{_≡_, sym, _∙_}
 use mathlib.Core.Bool.{cond, not}
-use mathlib.Core.List.{List}
+use mathlib.Core.List.{List, [], _∷_}
 use Prim.Native.Nat.{ℕ}
 use Rattle.image.specs.Loaded.{tooShort}
-use Rattle.stream.specs.Machine.{Written, wrote}
-use Rattle.stream.specs.Paper.{Whole}
+use Rattle.stream.specs.Machine.{fresh, Written, wrote}
+use Rattle.stream.specs.Paper.{Whole, loadedWords, loadedBytes}
 use Rattle.stream.specs.declared.Answer.{Answer}
 use Rattle.stream.specs.declared.Answer.the-variants.{More, Loaded, Refused}
-use Rattle.tailbow_c.specs.Flat.{flat, isLoad, decode}
-use Rattle.tailbow_c.specs.declared.FlatLoad.{FlatLoad}
-use Rattle.tailbow_c.specs.declared.FlatWrote.{FlatWrote}
+use Rattle.tailbow_c.specs.Flat.{storedIn, isLoad, loadIn}
 
 -- "answer 0 means loaded", a refusal its number; "more", which has none in document 01, the highest
 abbrev pub numberOf : Answer → ℕ
@@ -18,31 +16,62 @@ numberOf More = 0xFFFFFFFF
 numberOf Loaded = 0
 numberOf (Refused n) = n
 
--- what a write leaves: the number of its answer, the load state's numbers and the buffer
+-- ---- a fresh load: all six numbers are zero, and they are the state before a first write
+pub record FreshLoad (after : List ℕ) : Type 0 where
+  pub numbers : after ≡ 0 ∷ 0 ∷ 0 ∷ 0 ∷ 0 ∷ 0 ∷ []
+  pub state : loadIn after ≡ fresh
+
+pub one-fresh-load : (a b : List ℕ) → FreshLoad a → FreshLoad b → a ≡ b
+one-fresh-load a b p q = p .numbers ∙ sym (q .numbers)
+
+-- ---- a write
+
+-- what it leaves: the number of its answer, the load state's numbers and the buffer
 pub record FlatWritten : Type 0 where
   pub answer : ℕ
-  pub load : FlatLoad
+  pub numbers : List ℕ
   pub buffer : List ℕ
 
-abbrev pub flattened : ℕ → Written → FlatWritten
-flattened spare w = record { answer = numberOf (w .answer); load = flat spare (w .load); buffer = w .buffer }
+abbrev pub flattened : List ℕ → Written → FlatWritten
+flattened numbers w = record { answer = numberOf (w .answer); numbers = storedIn numbers (w .load); buffer = w .buffer }
 
-abbrev pub asFoundFlat : ℕ → FlatLoad → List ℕ → FlatWritten
-asFoundFlat n f buffer = record { answer = n; load = f; buffer = buffer }
+abbrev pub asFoundFlat : ℕ → List ℕ → List ℕ → FlatWritten
+asFoundFlat n numbers buffer = record { answer = n; numbers = numbers; buffer = buffer }
 
 -- 31; 30 for numbers that no load state has; then a write to the load state
-unfoldable pub wroteFlat : FlatLoad → List ℕ → List ℕ → FlatWritten
-wroteFlat f buffer words =
-    cond (tooShort buffer) (asFoundFlat 31 f buffer)
-    (cond (not (isLoad f)) (asFoundFlat 30 f buffer) (flattened (f .told) (wrote (decode f) buffer words)))
+unfoldable pub wroteFlat : List ℕ → List ℕ → List ℕ → FlatWritten
+wroteFlat numbers buffer words =
+    cond (tooShort buffer) (asFoundFlat 31 numbers buffer)
+    (cond (not (isLoad numbers)) (asFoundFlat 30 numbers buffer) (flattened numbers (wrote (loadIn numbers) buffer words)))
 
--- a write leaves its answer, the load state and the buffer as `wroteFlat` says, for all numbers, buffers and words
-pub record WritesFlat (f : FlatLoad) (buffer words : List ℕ) (r : FlatWrote) (after : List ℕ) : Type 0 where
-  pub answer : r .answer ≡ wroteFlat f buffer words .answer
-  pub state : r .load ≡ wroteFlat f buffer words .load
-  pub kept : after ≡ wroteFlat f buffer words .buffer
+-- a write leaves its answer, the load state's numbers and the buffer as `wroteFlat` says, for all numbers, buffers and words
+pub record WritesFlat (numbers buffer words : List ℕ) (r : ℕ) (after kept : List ℕ) : Type 0 where
+  pub answer : r ≡ wroteFlat numbers buffer words .answer
+  pub state : after ≡ wroteFlat numbers buffer words .numbers
+  pub image : kept ≡ wroteFlat numbers buffer words .buffer
 
--- a whole load leaves this answer's number and this buffer
+pub one-write : (numbers buffer words : List ℕ) (r s : ℕ) (a b k m : List ℕ) → WritesFlat numbers buffer words r a k → WritesFlat numbers buffer words s b m
+    → (r ≡ s) × (a ≡ b) × (k ≡ m)
+one-write numbers buffer words r s a b k m p q = (p .answer ∙ sym (q .answer), p .state ∙ sym (q .state), p .image ∙ sym (q .image))
+
+-- ---- a whole load
+
+-- its answer's number and the buffer
 pub record EndsFlat (w : Whole) (r : ℕ) (after : List ℕ) : Type 0 where
   pub told : r ≡ numberOf (w .answer)
   pub kept : after ≡ w .buffer
+
+one-end : (w : Whole) (r s : ℕ) (a b : List ℕ) → EndsFlat w r a → EndsFlat w s b → (r ≡ s) × (a ≡ b)
+one-end w r s a b p q = (p .told ∙ sym (q .told), p .kept ∙ sym (q .kept))
+
+abbrev pub LoadsWords : List ℕ → List ℕ → ℕ → List ℕ → Type 0
+LoadsWords buffer words r after = EndsFlat (loadedWords buffer words) r after
+
+abbrev pub LoadsBytes : List ℕ → List ℕ → ℕ → List ℕ → Type 0
+LoadsBytes buffer bytes r after = EndsFlat (loadedBytes buffer bytes) r after
+
+pub one-words : (buffer words : List ℕ) (r s : ℕ) (a b : List ℕ) → LoadsWords buffer words r a → LoadsWords buffer words s b → (r ≡ s) × (a ≡ b)
+one-words buffer words = one-end (loadedWords buffer words)
+
+pub one-bytes : (buffer bytes : List ℕ) (r s : ℕ) (a b : List ℕ) → LoadsBytes buffer bytes r a → LoadsBytes buffer bytes s b → (r ≡ s) × (a ≡ b)
+one-bytes buffer bytes = one-end (loadedBytes buffer bytes)

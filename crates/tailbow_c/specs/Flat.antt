@@ -1,14 +1,27 @@
--- A load state as numbers and back. No state is lost, and every other struct of numbers is one that no state has.
+-- A load state as six numbers in a row, and back.
 use mathlib.Core.Bool.{Bool, false, cond}
-use Prim.Native.Nat.{ℕ}
-use lib.Dec.{ltb, eqb}
-use Rattle.image.specs.Tables.{indexOf}
+use mathlib.Core.List.{List, [], _∷_}
+use Prim.Native.Nat.{ℕ, _+_, _*_, _/_, _%_}
+use lib.Dec.{ltb}
+use lib.ListN.{getD}
+use lib.Seq.{sets}
+use Rattle.image.specs.Tables.{indexOf, tables}
 use Rattle.image.specs.declared.tables.Table.{Table}
-use Rattle.image.specs.declared.tables.Table.the-variants.{AddressLookup, Policing, VlanLookup, Forwarding, MacConfiguration, LookupParameters, ForwardingParameters, GeneralParameters, XmiiModeParameters}
+use Rattle.image.specs.declared.tables.Table.the-variants.{AddressLookup}
 use Rattle.stream.specs.declared.Phase.{Phase}
 use Rattle.stream.specs.declared.Phase.the-variants.{Device, Id, Length, Sum, Data, Told}
 use Rattle.stream.specs.declared.Load.{Load}
-use Rattle.tailbow_c.specs.declared.FlatLoad.{FlatLoad}
+
+-- ---- two numbers of 32 bits in one of 64
+
+abbrev pub low : ℕ → ℕ
+low n = n % 4294967296
+
+abbrev pub high : ℕ → ℕ
+high n = n / 4294967296
+
+abbrev pub joined : ℕ → ℕ → ℕ
+joined l h = l + h * 4294967296
 
 -- ---- a state as numbers
 
@@ -29,53 +42,44 @@ toldIn spare Sum = spare
 toldIn spare Data = spare
 toldIn spare (Told n) = n
 
-abbrev pub flat : ℕ → Load → FlatLoad
-flat spare l =
-    record {
-      phase = phaseNumber (l .phase);
-      told = toldIn spare (l .phase);
-      table = indexOf (l .table);
-      placed = l .placed;
-      due = l .due;
-      first = l .first;
-      second = l .second;
-      stream = l .stream;
-      block = l .block;
-    }
+-- the six numbers of a state, in the place of the numbers c; the upper half of the second, which is no part of it, is kept
+abbrev pub numbersOf : List ℕ → Load → List ℕ
+numbersOf c l =
+    joined (phaseNumber (l .phase)) (toldIn (high (getD c 0 0)) (l .phase))
+    ∷ joined (indexOf (l .table)) (high (getD c 1 0))
+    ∷ l .placed
+    ∷ l .due
+    ∷ joined (l .first) (l .second)
+    ∷ joined (l .stream) (l .block)
+    ∷ []
 
-abbrev pub encode : Load → FlatLoad
-encode l = flat 0 l
+abbrev pub storedIn : List ℕ → Load → List ℕ
+storedIn c l = sets c 0 (numbersOf c l)
 
 -- ---- and back
 
--- the numbers are a load state's: its phase is one of six and its table one of nine; every other number stands as it is
-abbrev pub isLoad : FlatLoad → Bool
-isLoad f = cond (ltb 5 (f .phase)) false (ltb (f .table) 9)
+abbrev pub phases : List Phase
+phases = Device ∷ Id ∷ Length ∷ Sum ∷ Data ∷ []
 
 abbrev pub phaseOf : ℕ → ℕ → Phase
-phaseOf number told =
-    cond (eqb number 0) Device
-    (cond (eqb number 1) Id (cond (eqb number 2) Length (cond (eqb number 3) Sum (cond (eqb number 4) Data (Told told)))))
+phaseOf number told = getD phases number (Told told)
 
 abbrev pub tableOf : ℕ → Table
-tableOf number =
-    cond (eqb number 0) AddressLookup
-    (cond (eqb number 1) Policing
-    (cond (eqb number 2) VlanLookup
-    (cond (eqb number 3) Forwarding
-    (cond (eqb number 4) MacConfiguration
-    (cond (eqb number 5) LookupParameters
-    (cond (eqb number 6) ForwardingParameters (cond (eqb number 7) GeneralParameters XmiiModeParameters)))))))
+tableOf number = getD tables number AddressLookup
 
-abbrev pub decode : FlatLoad → Load
-decode f =
+-- the numbers are a load state's: its phase is one of six and its table one of nine; every other number stands as it is
+abbrev pub isLoad : List ℕ → Bool
+isLoad c = cond (ltb 5 (low (getD c 0 0))) false (ltb (low (getD c 1 0)) 9)
+
+abbrev pub loadIn : List ℕ → Load
+loadIn c =
     record {
-      phase = phaseOf (f .phase) (f .told);
-      table = tableOf (f .table);
-      placed = f .placed;
-      due = f .due;
-      first = f .first;
-      second = f .second;
-      stream = f .stream;
-      block = f .block;
+      phase = phaseOf (low (getD c 0 0)) (high (getD c 0 0));
+      table = tableOf (low (getD c 1 0));
+      placed = getD c 2 0;
+      due = getD c 3 0;
+      first = low (getD c 4 0);
+      second = high (getD c 4 0);
+      stream = low (getD c 5 0);
+      block = high (getD c 5 0);
     }

@@ -2,8 +2,8 @@
 pub mod Flat
 pub mod Calls
 pub mod Round
+pub mod Kept
+pub mod Data
 pub mod Frames
 pub mod Lent
 pub mod Lists
-pub mod Packed
-pub mod Data

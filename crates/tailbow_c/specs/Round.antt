@@ -1,24 +1,72 @@
 -- A load state survives its numbers, and numbers that are a state's survive the state: nothing is lost on a call's way in and out.
 use mathlib.Core.Path.{_≡_, refl, sym, _∙_, ap}
 use mathlib.Core.Bool.{Bool, true, false, cond, not, true≢false}
-use mathlib.Core.List.{List}
-use Prim.Native.Nat.{ℕ, _<_}
+use mathlib.Core.List.{List, [], _∷_}
+use Prim.Native.Nat.{ℕ, zero, suc, _<_, _≤_}
 use native.Mathlib.Omega.{arith}
-use lib.Dec.{ltb, eqb}
-use borrow.Author.Tests.{ltb-true, ltb-false, eqb-true}
-use Rattle.laws.specs.Scan.{every, every-at}
-use Rattle.laws.specs.Chain.{pass}
+use lib.Dec.{ltb}
+use lib.ListN.{length, getD, set, drop}
+use lib.Seq.{sets, sets-eq, set-getD}
+use borrow.Author.Tests.{ltb-true, ltb-false, lt-ltb, le-ltb}
 use Rattle.image.specs.Loaded.{tooShort}
 use Rattle.image.specs.Tables.{indexOf}
 use Rattle.image.specs.declared.tables.Table.{Table}
 use Rattle.image.specs.declared.tables.Table.the-variants.{AddressLookup, Policing, VlanLookup, Forwarding, MacConfiguration, LookupParameters, ForwardingParameters, GeneralParameters, XmiiModeParameters}
-use Rattle.stream.specs.Machine.{wrote}
+use Rattle.stream.specs.Headers.{table-index}
+use Rattle.stream.specs.Machine.{Written, untouched, wrote}
+use Rattle.stream.specs.Runs.{index-lt}
 use Rattle.stream.specs.declared.Phase.{Phase}
 use Rattle.stream.specs.declared.Phase.the-variants.{Device, Id, Length, Sum, Data, Told}
 use Rattle.stream.specs.declared.Load.{Load}
-use Rattle.tailbow_c.specs.Flat.{phaseNumber, toldIn, flat, encode, isLoad, phaseOf, tableOf, decode}
-use Rattle.tailbow_c.specs.Calls.{flattened, asFoundFlat, wroteFlat}
-use Rattle.tailbow_c.specs.declared.FlatLoad.{FlatLoad}
+use Rattle.tailbow_c.specs.Flat.{low, high, joined, phaseNumber, toldIn, phaseOf, tableOf, loadIn, isLoad, numbersOf, storedIn}
+use Rattle.tailbow_c.specs.Calls.{FlatWritten, flattened, asFoundFlat, wroteFlat}
+
+-- ---- halves
+
+low-joined : (l h : ℕ) → l < 4294967296 → low (joined l h) ≡ l
+low-joined l h s = omega arith
+
+high-joined : (l h : ℕ) → l < 4294967296 → high (joined l h) ≡ h
+high-joined l h s = omega arith
+
+pub joined-halves : (n : ℕ) → joined (low n) (high n) ≡ n
+joined-halves n = omega arith
+
+-- ---- a state's numbers, the state, its numbers
+
+-- a store of what stands there
+pub put-back : (c : List ℕ) (i v : ℕ) (vs : List ℕ) → v ≡ getD c i 0 → sets c i (v ∷ vs) ≡ sets c (suc i) vs
+put-back c i v vs e = ap (λ (l : List ℕ). sets l (suc i) vs) (ap (set c i) e ∙ set-getD c i 0)
+
+pub phase-kept : (n told : ℕ) → n ≤ 5 → joined (phaseNumber (phaseOf n told)) (toldIn told (phaseOf n told)) ≡ joined n told
+phase-kept zero told h = refl
+phase-kept (suc zero) told h = refl
+phase-kept (suc (suc zero)) told h = refl
+phase-kept (suc (suc (suc zero))) told h = refl
+phase-kept (suc (suc (suc (suc zero)))) told h = refl
+phase-kept (suc (suc (suc (suc (suc zero))))) told h = refl
+phase-kept (suc (suc (suc (suc (suc (suc n)))))) told h = absurd (omega arith)
+
+pub table-kept : (n spare : ℕ) → n < 9 → joined (indexOf (tableOf n)) spare ≡ joined n spare
+table-kept n spare h = ap (λ (k : ℕ). joined k spare) (table-index n h)
+
+in-range : (a b : ℕ) → cond (ltb 5 a) false (ltb b 9) ≡ true → (a ≤ 5) × (b < 9)
+in-range a b e = by (ltb 5 a) refl e
+  where
+    by : (t : Bool) → ltb 5 a ≡ t → cond t false (ltb b 9) ≡ true → (a ≤ 5) × (b < 9)
+    by true q f = absurd (true≢false (sym f))
+    by false q f = (ltb-false 5 a q, ltb-true b 9 f)
+
+pub numbers-back : (c : List ℕ) → isLoad c ≡ true → storedIn c (loadIn c) ≡ c
+numbers-back c e =
+    let r = in-range (low (getD c 0 0)) (low (getD c 1 0)) e in
+    let vs : List ℕ = numbersOf c (loadIn c) in
+    put-back c 0 _ (drop 1 vs) (phase-kept _ _ (r .0) ∙ joined-halves (getD c 0 0))
+    ∙ put-back c 1 _ (drop 2 vs) (table-kept _ _ (r .1) ∙ joined-halves (getD c 1 0))
+    ∙ put-back c 2 _ (drop 3 vs) refl
+    ∙ put-back c 3 _ (drop 4 vs) refl
+    ∙ put-back c 4 _ (drop 5 vs) (joined-halves (getD c 4 0))
+    ∙ put-back c 5 _ [] (joined-halves (getD c 5 0))
 
 -- ---- a state, its numbers, the state
 
@@ -41,131 +89,62 @@ table-back ForwardingParameters = refl
 table-back GeneralParameters = refl
 table-back XmiiModeParameters = refl
 
--- a load state with another phase and table
-abbrev with : Load → Phase → Table → Load
-with l p t =
-    record {
-      phase = p;
-      table = t;
-      placed = l .placed;
-      due = l .due;
-      first = l .first;
-      second = l .second;
-      stream = l .stream;
-      block = l .block;
-    }
+phase-fits : (p : Phase) → phaseNumber p ≤ 5
+phase-fits Device = omega arith
+phase-fits Id = omega arith
+phase-fits Length = omega arith
+phase-fits Sum = omega arith
+phase-fits Data = omega arith
+phase-fits (Told n) = omega arith
 
-pub decode-flat : (spare : ℕ) (l : Load) → decode (flat spare l) ≡ l
-decode-flat spare l =
-    ap (λ (p : Phase). with l p (tableOf (indexOf (l .table)))) (phase-back spare (l .phase))
-    ∙ ap (λ (t : Table). with l (l .phase) t) (table-back (l .table))
+-- the state's numbers that go into a lower half have 32 bits, as their type says
+pub record Halves (l : Load) : Type 0 where
+  pub first : l .first < 4294967296
+  pub stream : l .stream < 4294967296
 
-pub decode-encode : (l : Load) → decode (encode l) ≡ l
-decode-encode l = decode-flat 0 l
+module _ (c : List ℕ) (l : Load) (six : length c ≡ 6) (fits : Halves l) where
+  pub state-back : loadIn (storedIn c l) ≡ l
+  state-back =
+      let p : phaseNumber (l .phase) < 4294967296 = omega (arith, phase-fits (l .phase)) in
+      let t : indexOf (l .table) < 4294967296 = omega (arith, index-lt (l .table)) in
+      let f : l .first < 4294967296 = fits .first in
+      let s : l .stream < 4294967296 = fits .stream in
+      ap loadIn (sets-eq (numbersOf c l) c 0 (omega arith)) ∙ simp (low-joined, high-joined, phase-back, table-back)
 
-phase-fits : (p : Phase) → ltb 5 (phaseNumber p) ≡ false
-phase-fits Device = refl
-phase-fits Id = refl
-phase-fits Length = refl
-phase-fits Sum = refl
-phase-fits Data = refl
-phase-fits (Told n) = refl
-
-table-fits : (t : Table) → ltb (indexOf t) 9 ≡ true
-table-fits AddressLookup = refl
-table-fits Policing = refl
-table-fits VlanLookup = refl
-table-fits Forwarding = refl
-table-fits MacConfiguration = refl
-table-fits LookupParameters = refl
-table-fits ForwardingParameters = refl
-table-fits GeneralParameters = refl
-table-fits XmiiModeParameters = refl
-
--- what a call hands out is a load state's
-pub flat-is-load : (spare : ℕ) (l : Load) → isLoad (flat spare l) ≡ true
-flat-is-load spare l =
-    ap (λ (b : Bool). cond b false (ltb (indexOf (l .table)) 9)) (phase-fits (l .phase)) ∙ table-fits (l .table)
-
-pub encode-is-load : (l : Load) → isLoad (encode l) ≡ true
-encode-is-load l = flat-is-load 0 l
-
--- ---- a state's numbers, the state, its numbers
-
-all-phases : (told : ℕ) → every 6 (λ k. eqb (phaseNumber (phaseOf k told)) k) ≡ true
-unfolding every
-all-phases told = refl
-
-all-tables : every 9 (λ k. eqb (indexOf (tableOf k)) k) ≡ true
-unfolding every
-all-tables = refl
-
-told-back : (number told : ℕ) → toldIn told (phaseOf number told) ≡ told
-told-back number told =
-    pick (eqb number 0) Device _ refl
-    (pick (eqb number 1) Id _ refl
-    (pick (eqb number 2) Length _ refl (pick (eqb number 3) Sum _ refl (pick (eqb number 4) Data (Told told) refl refl))))
-  where
-    pick : (b : Bool) (p q : Phase) → toldIn told p ≡ told → toldIn told q ≡ told → toldIn told (cond b p q) ≡ told
-    pick true p q e f = e
-    pick false p q e f = f
-
-in-range : (a b : Bool) → cond a false b ≡ true → (a ≡ false) × (b ≡ true)
-in-range true b e = absurd (true≢false (sym e))
-in-range false b e = (refl, e)
-
--- numbers with another phase, answer and table
-abbrev numbers : FlatLoad → ℕ → ℕ → ℕ → FlatLoad
-numbers f p n t =
-    record {
-      phase = p;
-      told = n;
-      table = t;
-      placed = f .placed;
-      due = f .due;
-      first = f .first;
-      second = f .second;
-      stream = f .stream;
-      block = f .block;
-    }
-
-pub flat-decode : (f : FlatLoad) → isLoad f ≡ true → flat (f .told) (decode f) ≡ f
-flat-decode f e =
-    let r = in-range (ltb 5 (f .phase)) (ltb (f .table) 9) e in
-    let low : f .phase < 6 = omega (arith, ltb-false 5 (f .phase) (r .0)) in
-    ap (λ (p : ℕ). numbers f p (toldIn (f .told) (phaseOf (f .phase) (f .told))) (indexOf (tableOf (f .table))))
-    (eqb-true _ (f .phase) (every-at 6 (f .phase) (λ k. eqb (phaseNumber (phaseOf k (f .told))) k) (all-phases (f .told)) low))
-    ∙ ap (λ (n : ℕ). numbers f (f .phase) n (indexOf (tableOf (f .table)))) (told-back (f .phase) (f .told))
-    ∙ ap (λ (t : ℕ). numbers f (f .phase) (f .told) t)
-    (eqb-true _ (f .table) (every-at 9 (f .table) (λ k. eqb (indexOf (tableOf k)) k) all-tables (ltb-true (f .table) 9 (r .1))))
+  pub is-state : isLoad (storedIn c l) ≡ true
+  is-state =
+      let p : phaseNumber (l .phase) < 4294967296 = omega (arith, phase-fits (l .phase)) in
+      let t : indexOf (l .table) < 4294967296 = omega (arith, index-lt (l .table)) in
+      ap isLoad (sets-eq (numbersOf c l) c 0 (omega arith)) ∙ simp (low-joined, le-ltb 5 _ (phase-fits (l .phase)), lt-ltb _ 9 (index-lt (l .table)))
 
 -- ---- what a write by numbers is
 
 -- numbers that no load state has: 30 after 31, everything as found
-pub no-state : (f : FlatLoad) (buffer words : List ℕ) → isLoad f ≡ false
-    → wroteFlat f buffer words ≡ cond (tooShort buffer) (asFoundFlat 31 f buffer) (asFoundFlat 30 f buffer)
+pub no-state : (c buffer words : List ℕ) → isLoad c ≡ false → wroteFlat c buffer words ≡ cond (tooShort buffer) (asFoundFlat 31 c buffer) (asFoundFlat 30 c buffer)
 unfolding wroteFlat
-no-state f buffer words e =
-    ap (λ (b : Bool). cond (tooShort buffer) (asFoundFlat 31 f buffer) (cond (not b) (asFoundFlat 30 f buffer) (flattened (f .told) (wrote (decode f) buffer words)))) e
+no-state c buffer words e =
+    ap (λ (b : Bool). cond (tooShort buffer) (asFoundFlat 31 c buffer) (cond (not b) (asFoundFlat 30 c buffer) (flattened c (wrote (loadIn c) buffer words)))) e
+
+-- numbers that are a state's: a write to the state, also where it is refused
+pub of-state : (c buffer words : List ℕ) → isLoad c ≡ true → wroteFlat c buffer words ≡ flattened c (wrote (loadIn c) buffer words)
+unfolding wroteFlat wrote
+of-state c buffer words e = by (tooShort buffer) (isLoad c) _ e
+  where
+    by : (short is : Bool) (w : Written) → is ≡ true
+        → cond short (asFoundFlat 31 c buffer) (cond (not is) (asFoundFlat 30 c buffer) (flattened c (cond short (untouched 31 (loadIn c) buffer) w)))
+        ≡ flattened c (cond short (untouched 31 (loadIn c) buffer) w)
+    by true is w q = ap (λ (numbers : List ℕ). asFoundFlat 31 numbers buffer) (sym (numbers-back c e))
+    by false true w q = refl
+    by false false w q = absurd (true≢false (sym q))
 
 -- a write that leaves the load state as found leaves every number as found: 30, 31, 32 and a repeated answer
-pub as-found : (f : FlatLoad) (buffer words : List ℕ) → isLoad f ≡ true → wrote (decode f) buffer words .load ≡ decode f
-    → wroteFlat f buffer words .load ≡ f
-unfolding wroteFlat
-as-found f buffer words e kept = go (tooShort buffer) (isLoad f) e
-  where
-    go : (short is : Bool) → is ≡ true
-        → cond short (asFoundFlat 31 f buffer) (cond (not is) (asFoundFlat 30 f buffer) (flattened (f .told) (wrote (decode f) buffer words))) .load ≡ f
-    go true is q = refl
-    go false true q = ap (λ (l : Load). flat (f .told) l) kept ∙ flat-decode f e
-    go false false q = refl
+pub as-found : (c buffer words : List ℕ) → isLoad c ≡ true → wrote (loadIn c) buffer words .load ≡ loadIn c → wroteFlat c buffer words .numbers ≡ c
+as-found c buffer words e kept =
+    ap (λ (w : FlatWritten). w .numbers) (of-state c buffer words e) ∙ ap (storedIn c) kept ∙ numbers-back c e
 
 -- a write to a state's numbers is a write to the state
-pub through : (l : Load) (buffer words : List ℕ) → tooShort buffer ≡ false
-    → wroteFlat (encode l) buffer words ≡ flattened (encode l .told) (wrote l buffer words)
-unfolding wroteFlat
-through l buffer words long =
-    sym
-    (pass _ (tooShort buffer) _ _ _ refl long
-    (pass _ (not (isLoad (encode l))) _ _ _ refl (ap not (encode-is-load l))
-    (ap (λ (s : Load). flattened (encode l .told) (wrote s buffer words)) (sym (decode-encode l)))))
+pub through : (c : List ℕ) (l : Load) (buffer words : List ℕ) → length c ≡ 6 → Halves l
+    → wroteFlat (storedIn c l) buffer words ≡ flattened (storedIn c l) (wrote l buffer words)
+through c l buffer words six fits =
+    of-state (storedIn c l) buffer words (is-state c l six fits)
+    ∙ ap (λ (s : Load). flattened (storedIn c l) (wrote s buffer words)) (state-back c l six fits)

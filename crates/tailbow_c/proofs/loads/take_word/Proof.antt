@@ -1,0 +1,22 @@
+-- `tailbow_c::loads::take_word`: the word stored, and the state moved over it.
+use mathlib.Core.Path.{refl}
+use borrow.Author.Needs.{needs}
+use Rattle.crc.specs.Crc.{wordsIn}
+use Rattle.tailbow_c.proofs.loads.take_word.Statement.{statement}
+use Rattle.tailbow_c.proofs.loads.take_word.Tie as tie
+
+returns : tie.Need-returns
+unfolding wordsIn
+returns c = record { more = refl; moves = cc; stored = refl }
+
+pub take-word-spec : {M : Type 1} → statement M
+take-word-spec =
+    tie.close
+    (tie.spec
+    (λ c. search needs)
+    (λ c. search needs)
+    (λ c κs. search needs)
+    (λ c κs. search needs)
+    (λ c κs. search needs)
+    (λ c. search needs)
+    returns)

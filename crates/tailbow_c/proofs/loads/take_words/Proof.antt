@@ -1,0 +1,16 @@
+-- `tailbow_c::loads::take_words`: the words stored, and the state moved over them.
+use mathlib.Core.Path.{refl}
+use borrow.Author.Needs.{needs}
+use Rattle.tailbow_c.proofs.loads.take_words.Statement.{statement}
+use Rattle.tailbow_c.proofs.loads.take_words.Tie as tie
+
+pub take-words-spec : {M : Type 1} → statement M
+take-words-spec =
+    tie.close
+    (tie.spec
+    (λ c κs. search needs)
+    (λ c κs. search needs)
+    (λ c κs. search needs)
+    (λ c κs. search needs)
+    (λ c. search needs)
+    (λ c. record { more = refl; moves = cc; stored = search needs }))

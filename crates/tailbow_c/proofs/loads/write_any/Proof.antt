@@ -1,0 +1,22 @@
+-- `tailbow_c::loads::write_any`: 31, 30 for numbers that no load state has, then the write to the state, which is stored in its numbers.
+use borrow.Author.Needs.{needs}
+use Rattle.tailbow_c.proofs.LoadLaws.{writes-31, writes-30, writes-on}
+use Rattle.tailbow_c.proofs.loads.write_any.Statement.{statement}
+use Rattle.tailbow_c.proofs.loads.write_any.Tie as tie
+
+pub write-any-spec : {M : Type 1} → statement M
+write-any-spec =
+    tie.close
+    (tie.spec
+    (λ c κs. search needs)
+    (λ c. search needs)
+    (λ c. search (needs, writes-31))
+    (λ c κs. search needs)
+    (λ c. search needs)
+    (λ c. search (needs, writes-30))
+    (λ c κs. search needs)
+    (λ c κs. search needs)
+    (λ c κs. search needs)
+    (λ c κs. search needs)
+    (λ c. search needs)
+    (λ c. search (needs, writes-on)))
