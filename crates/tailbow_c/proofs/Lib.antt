@@ -1,3 +1,2 @@
 -- Laws that several of the entries' proofs cite.
 pub mod LoadLaws
-pub mod FrameLaws
