@@ -21,14 +21,13 @@ use Rattle.stream.specs.Order.{Piece, streamed, All, brings, ordered, same-list
 use Rattle.stream.specs.Header.{lengthOf}
 use Rattle.image.specs.Rows.{rowOf, room}
 use Rattle.stream.specs.Machine.{written}
-use Rattle.ledger.specs.declared.Ledger.{Ledger}
 use Rattle.ledger.specs.declared.Answer.{Answer}
 use Rattle.ledger.specs.Answers.{answerOf}
 use Rattle.ledger.specs.Fresh.{freshOf}
-use Rattle.ledger.specs.Release.{releaseRefusal, released}
-use Rattle.ledger.specs.Proved.{same-release}
-use Rattle.judge.specs.declared.Verdict.{Verdict}
-use Rattle.judge.specs.declared.Judged.{Judged}
+use Rattle.ledger.specs.Release.{releaseRefusal}
+use Rattle.ledger.specs.Proved.{same-refusal, same-release}
+use Rattle.judge.specs.declared.settle.Verdict.{Verdict}
+use Rattle.judge.specs.Settle.{Judged}
 use Rattle.judge.specs.Judge.{judgeOf}
 use Rattle.judge.specs.Proved.{same-judgement}
 use Rattle.tile.specs.declared.shares.Asked.{Asked}
@@ -85,7 +84,7 @@ pub data Said : Type 0 where
   verdict : Verdict → Said
   freed : Answer → Said
 
-abbrev pub saidTo : List ℕ → Ledger → Event → Said
+abbrev pub saidTo : List ℕ → List ℕ → Event → Said
 saidTo buffer g (frame port time bytes) = verdict (judgeOf buffer g port time bytes .verdict)
 saidTo buffer g (release partition) = freed (answerOf (releaseRefusal buffer g partition))
 
@@ -98,7 +97,7 @@ pub record Night : Type 0 where
   pub tile3 : Asked
   pub tile4 : Asked
 
-abbrev pub shown : List ℕ → Ledger → List Said → Night
+abbrev pub shown : List ℕ → List ℕ → List Said → Night
 shown buffer g said =
     record {
       said = said;
@@ -109,20 +108,20 @@ shown buffer g said =
       tile4 = askedOf buffer g 4;
     }
 
-abbrev pub night : List ℕ → Ledger → List Said → List Event → Night
+abbrev pub night : List ℕ → List ℕ → List Said → List Event → Night
 night buffer g said [] = shown buffer g said
 night buffer g said (e ∷ es) = night buffer (step buffer g e) (said ++ (saidTo buffer g e ∷ [])) es
 
 module _ (a b : List ℕ) (long : tooShort a ≡ tooShort b) (image : imageIn a ≡ imageIn b) where
-  same-step : (g : Ledger) (e : Event) → step a g e ≡ step b g e
-  same-step g (frame port time bytes) = ap (λ (j : Judged). j .ledger) (same-judgement a b long image g port time bytes)
-  same-step g (release partition) = ap (λ (n : ℕ). cond (eqb n 0) (released g partition) g) (same-release a b long image g partition)
+  same-step : (g : List ℕ) (e : Event) → step a g e ≡ step b g e
+  same-step g (frame port time bytes) = ap (λ (j : Judged). j .row) (same-judgement a b long image g port time bytes)
+  same-step g (release partition) = same-release a b long image g partition
 
-  same-said : (g : Ledger) (e : Event) → saidTo a g e ≡ saidTo b g e
+  same-said : (g : List ℕ) (e : Event) → saidTo a g e ≡ saidTo b g e
   same-said g (frame port time bytes) = ap (λ (j : Judged). verdict (j .verdict)) (same-judgement a b long image g port time bytes)
-  same-said g (release partition) = ap (λ (n : ℕ). freed (answerOf n)) (same-release a b long image g partition)
+  same-said g (release partition) = ap (λ (n : ℕ). freed (answerOf n)) (same-refusal a b long image g partition)
 
-  same-shown : (g : Ledger) (said : List Said) → shown a g said ≡ shown b g said
+  same-shown : (g : List ℕ) (said : List Said) → shown a g said ≡ shown b g said
   same-shown g said =
       let t = same-tile a b long image g in
       ap (λ (x : Asked). record { said = said; tile0 = x; tile1 = askedOf a g 1; tile2 = askedOf a g 2; tile3 = askedOf a g 3; tile4 = askedOf a g 4 }) (t 0)
@@ -132,10 +131,10 @@ module _ (a b : List ℕ) (long : tooShort a ≡ tooShort b) (image : imageIn a 
       ∙ ap (λ (x : Asked). record { said = said; tile0 = askedOf b g 0; tile1 = askedOf b g 1; tile2 = askedOf b g 2; tile3 = askedOf b g 3; tile4 = x }) (t 4)
 
   -- two buffers with one image: one night
-  pub same-night : (g : Ledger) (said : List Said) (es : List Event) → night a g said es ≡ night b g said es
+  pub same-night : (g : List ℕ) (said : List Said) (es : List Event) → night a g said es ≡ night b g said es
   same-night g said [] = same-shown g said
   same-night g said (e ∷ es) =
-      ap (λ (x : Ledger). night a x (said ++ (saidTo a g e ∷ [])) es) (same-step g e)
+      ap (λ (x : List ℕ). night a x (said ++ (saidTo a g e ∷ [])) es) (same-step g e)
       ∙ ap (λ (x : Said). night a (step b g e) (said ++ (x ∷ [])) es) (same-said g e)
       ∙ same-night (step b g e) (said ++ (saidTo b g e ∷ [])) es
 

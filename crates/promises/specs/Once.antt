@@ -1,38 +1,38 @@
--- Each entry's outcome is one: any two outcomes that its promise permits are equal.
-use mathlib.Core.Path.{_≡_, refl, sym, _∙_, ap}
+-- Each entry's outcome is one: any two outcomes that its promise permits are equal. A theorem an entry.
+use mathlib.Core.Path.{_≡_, sym, _∙_, ap}
 use mathlib.Core.List.{List}
 use Prim.Native.Nat.{ℕ}
-use lib.ListN.{length}
-use Rattle.stream.specs.Paper.{Whole}
+use Rattle.stream.specs.Paper.{loadedWords, loadedBytes}
 use Rattle.stream.specs.declared.Answer.{Answer}
 use Rattle.stream.specs.declared.Load.{Load}
 use Rattle.loader.specs.Leaves.{Writes, Ends}
 use Rattle.loader.specs.declared.Wrote.{Wrote}
-use Rattle.ledger.specs.declared.Ledger.{Ledger}
-use Rattle.ledger.specs.declared.Answer as released
-use Rattle.ledger.specs.declared.Outcome.{Outcome}
-use Rattle.ledger.specs.Answers.{outcome}
+use Rattle.ledger.specs.declared.Answer as ledger
 use Rattle.ledger.specs.Fresh.{Freshened}
 use Rattle.ledger.specs.Release.{Released}
 use Rattle.ledger.specs.Proved.{one-fresh, one-release}
-use Rattle.judge.specs.declared.Verdict.{Verdict}
-use Rattle.judge.specs.declared.Judged.{Judged}
-use Rattle.judge.specs.Judge.{judged, Judges}
-use Rattle.judge.specs.Laws.{one-outcome}
+use Rattle.judge.specs.declared.settle.Verdict.{Verdict}
+use Rattle.judge.specs.Judge.{Judges}
+use Rattle.judge.specs.Laws.{one-judgement}
 use Rattle.tile.specs.declared.shares.Asked.{Asked}
 use Rattle.tile.specs.Tiles.{Tiled, one-answer}
-use Rattle.cells.specs.Cells.{cellCount, ledgerIn}
-use Rattle.cells.specs.Proved as cells
+use Rattle.lent.specs.declared.Event.{Event}
+use Rattle.lent.specs.declared.Told.{Told}
+use Rattle.lent.specs.Brings.{Brings, one-told}
 use Rattle.records.specs.declared.Record.{Record}
 use Rattle.records.specs.List.{standsAt}
 use Rattle.records.specs.Answer.{told}
 use Rattle.records.specs.Promises as records
-use Rattle.tailbow_c.specs.declared.FlatLoad.{FlatLoad}
-use Rattle.tailbow_c.specs.declared.FlatWrote.{FlatWrote}
 use Rattle.tailbow_c.specs.declared.frames.FlatVerdict.{FlatVerdict}
-use Rattle.tailbow_c.specs.Calls.{WritesFlat, EndsFlat}
-use Rattle.tailbow_c.specs.Lent.{JudgesLent, ReleasesLent, one-judged, one-released}
-use Rattle.tailbow_c.specs.Packed.{WritesLent, one-write}
+use Rattle.tailbow_c.specs.declared.frames.FlatTile.{FlatTile}
+use Rattle.tailbow_c.specs.declared.lists.FlatRecord.{FlatRecord}
+use Rattle.tailbow_c.specs.Calls.{FreshLoad, WritesFlat, LoadsWords, LoadsBytes}
+use Rattle.tailbow_c.specs.Calls as loads
+use Rattle.tailbow_c.specs.Frames.{FreshensFlat, JudgesFlat, ReleasesFlat, TilesFlat}
+use Rattle.tailbow_c.specs.Frames as frames
+use Rattle.tailbow_c.specs.Lists.{RecordsFlat, one-record}
+
+-- ---- the entries in Rattle
 
 -- `write`: the answer, the load state and the whole buffer
 pub write-once : (load : Load) (buffer words : List ℕ) (r s : Wrote) (a b : List ℕ) → Writes load buffer words r a → Writes load buffer words s b → (r ≡ s) × (a ≡ b)
@@ -43,72 +43,68 @@ write-once load buffer words r s a b p q = (
 )
 
 -- `load_words` and `load_bytes`: the answer and the whole buffer
-pub load-once : (w : Whole) (r s : Answer) (a b : List ℕ) → Ends w r a → Ends w s b → (r ≡ s) × (a ≡ b)
-load-once w r s a b p q = (p .told ∙ sym (q .told), p .kept ∙ sym (q .kept))
+pub load-words-once : (buffer words : List ℕ) (r s : Answer) (a b : List ℕ) → Ends (loadedWords buffer words) r a → Ends (loadedWords buffer words) s b
+    → (r ≡ s) × (a ≡ b)
+load-words-once buffer words r s a b p q = (p .told ∙ sym (q .told), p .kept ∙ sym (q .kept))
 
--- `fresh_ledger`
-pub fresh-once : (buffer : List ℕ) (r s : Outcome) → Freshened buffer r → Freshened buffer s → r ≡ s
+pub load-bytes-once : (buffer bytes : List ℕ) (r s : Answer) (a b : List ℕ) → Ends (loadedBytes buffer bytes) r a → Ends (loadedBytes buffer bytes) s b
+    → (r ≡ s) × (a ≡ b)
+load-bytes-once buffer bytes r s a b p q = (p .told ∙ sym (q .told), p .kept ∙ sym (q .kept))
+
+-- `fresh_ledger`: the answer and the whole row, and so for those that follow
+pub fresh-once : (buffer : List ℕ) (r s : ledger.Answer) (a b : List ℕ) → Freshened buffer r a → Freshened buffer s b → (r ≡ s) × (a ≡ b)
 fresh-once = one-fresh
 
--- `release`, and those of `lent`, whose answer and ledger are one outcome
-pub release-once : (buffer : List ℕ) (g : Ledger) (partition : ℕ) (r s : Outcome) → Released buffer g partition r → Released buffer g partition s → r ≡ s
+pub release-once : (buffer g : List ℕ) (partition : ℕ) (r s : ledger.Answer) (a b : List ℕ) → Released buffer g partition r a → Released buffer g partition s b
+    → (r ≡ s) × (a ≡ b)
 release-once = one-release
 
--- `judge`, and those of `lent`, whose verdict and ledger are one judgement
-pub judge-once : (buffer : List ℕ) (g : Ledger) (port time : ℕ) (frame : List ℕ) (r s : Judged) → Judges buffer g port time frame r → Judges buffer g port time frame s → r ≡ s
-judge-once = one-outcome
+pub judge-once : (buffer g : List ℕ) (port time : ℕ) (frame : List ℕ) (r s : Verdict) (a b : List ℕ) → Judges buffer g port time frame r a
+    → Judges buffer g port time frame s b
+    → (r ≡ s) × (a ≡ b)
+judge-once = one-judgement
 
--- `tile`
-pub tile-once : (buffer : List ℕ) (g : Ledger) (port : ℕ) (r s : Asked) → Tiled buffer g port r → Tiled buffer g port s → r ≡ s
+pub tile-once : (buffer g : List ℕ) (port : ℕ) (r s : Asked) → Tiled buffer g port r → Tiled buffer g port s → r ≡ s
 tile-once = one-answer
 
--- `judge_in` and `release_in` of `cells`: the answer and all the cells
-pub cells-judge-once : (buffer : List ℕ) (g : Ledger) (port time : ℕ) (frame : List ℕ) (r s : Verdict) (a b : List ℕ)
-    → Judges buffer g port time frame (judged r (ledgerIn a)) × (length a ≡ cellCount)
-    → Judges buffer g port time frame (judged s (ledgerIn b)) × (length b ≡ cellCount)
+-- `step`, `bring` and `bring_once` of `lent`, which have one promise
+pub bring-once : (buffer g : List ℕ) (event : Event) (frame : List ℕ) (r s : Told) (a b : List ℕ) → Brings buffer g event frame r a → Brings buffer g event frame s b
     → (r ≡ s) × (a ≡ b)
-cells-judge-once = cells.one-judgement
-
-pub cells-release-once : (buffer : List ℕ) (g : Ledger) (partition : ℕ) (r s : released.Answer) (a b : List ℕ)
-    → Released buffer g partition (outcome r (ledgerIn a)) × (length a ≡ cellCount)
-    → Released buffer g partition (outcome s (ledgerIn b)) × (length b ≡ cellCount)
-    → (r ≡ s) × (a ≡ b)
-cells-release-once = cells.one-answer
+bring-once = one-told
 
 -- `next` and `record_from`
 pub record-once : (list : List ℕ) (at : ℕ) (r s : Record) → told r ≡ standsAt list at → told s ≡ standsAt list at → r ≡ s
 record-once = records.one-answer
 
--- `tailbow_write`: the answer's number, the load state's numbers and the whole buffer
-pub flat-write-once : (f : FlatLoad) (buffer words : List ℕ) (r s : FlatWrote) (a b : List ℕ) → WritesFlat f buffer words r a → WritesFlat f buffer words s b
-    → (r ≡ s) × (a ≡ b)
-flat-write-once f buffer words r s a b p q = (
-  ap (λ (n : ℕ). record { answer = n; load = r .load }) (p .answer ∙ sym (q .answer))
-      ∙ ap (λ (l : FlatLoad). record { answer = s .answer; load = l }) (p .state ∙ sym (q .state)),
-  p .kept ∙ sym (q .kept),
-)
+-- ---- the entries for C and Rust: the answer's numbers, and all that was lent
 
--- `tailbow_write_lent`: the answer, the six numbers of the load state and the whole buffer
-pub lent-write-once : (numbers buffer words : List ℕ) (r s : ℕ) (a b k m : List ℕ) → WritesLent numbers buffer words r a k → WritesLent numbers buffer words s b m
+pub c-fresh-load-once : (a b : List ℕ) → FreshLoad a → FreshLoad b → a ≡ b
+c-fresh-load-once = loads.one-fresh-load
+
+pub c-write-once : (numbers buffer words : List ℕ) (r s : ℕ) (a b k m : List ℕ) → WritesFlat numbers buffer words r a k → WritesFlat numbers buffer words s b m
     → (r ≡ s) × (a ≡ b) × (k ≡ m)
-lent-write-once = one-write
+c-write-once = loads.one-write
 
--- `tailbow_load_words` and `tailbow_load_bytes`
-pub flat-load-once : (w : Whole) (r s : ℕ) (a b : List ℕ) → EndsFlat w r a → EndsFlat w s b → (r ≡ s) × (a ≡ b)
-flat-load-once w r s a b p q = (p .told ∙ sym (q .told), p .kept ∙ sym (q .kept))
+pub c-load-words-once : (buffer words : List ℕ) (r s : ℕ) (a b : List ℕ) → LoadsWords buffer words r a → LoadsWords buffer words s b → (r ≡ s) × (a ≡ b)
+c-load-words-once = loads.one-words
 
--- `tailbow_judge_lent` and `tailbow_release_lent`: the answer's numbers and the whole lent ledger
-pub lent-judge-once : (buffer cells : List ℕ) (port time : ℕ) (frame : List ℕ) (r s : FlatVerdict) (a b : List ℕ) → JudgesLent buffer cells port time frame r a
-    → JudgesLent buffer cells port time frame s b
+pub c-load-bytes-once : (buffer bytes : List ℕ) (r s : ℕ) (a b : List ℕ) → LoadsBytes buffer bytes r a → LoadsBytes buffer bytes s b → (r ≡ s) × (a ≡ b)
+c-load-bytes-once = loads.one-bytes
+
+pub c-fresh-ledger-once : (buffer : List ℕ) (r s : ℕ) (a b : List ℕ) → FreshensFlat buffer r a → FreshensFlat buffer s b → (r ≡ s) × (a ≡ b)
+c-fresh-ledger-once = frames.one-fresh
+
+pub c-judge-once : (buffer g : List ℕ) (port time : ℕ) (frame : List ℕ) (r s : FlatVerdict) (a b : List ℕ) → JudgesFlat buffer g port time frame r a
+    → JudgesFlat buffer g port time frame s b
     → (r ≡ s) × (a ≡ b)
-lent-judge-once = one-judged
+c-judge-once = frames.one-judged
 
-pub lent-release-once : (buffer cells : List ℕ) (partition r s : ℕ) (a b : List ℕ) → ReleasesLent buffer cells partition r a
-    → ReleasesLent buffer cells partition s b
+pub c-release-once : (buffer g : List ℕ) (partition r s : ℕ) (a b : List ℕ) → ReleasesFlat buffer g partition r a → ReleasesFlat buffer g partition s b
     → (r ≡ s) × (a ≡ b)
-lent-release-once = one-released
+c-release-once = frames.one-released
 
--- `tailbow_fresh_load`, `tailbow_fresh_ledger`, `tailbow_judge`, `tailbow_release`, `tailbow_tile` and `tailbow_record_at`: each one's promise is that
--- its outcome is this one
-pub equation-once : {A : Type 0} (outcome r s : A) → r ≡ outcome → s ≡ outcome → r ≡ s
-equation-once outcome r s a b = a ∙ sym b
+pub c-tile-once : (buffer g : List ℕ) (port : ℕ) (r s : FlatTile) → TilesFlat buffer g port r → TilesFlat buffer g port s → r ≡ s
+c-tile-once = frames.one-tile
+
+pub c-record-once : (list : List ℕ) (at : ℕ) (r s : FlatRecord) → RecordsFlat list at r → RecordsFlat list at s → r ≡ s
+c-record-once = one-record

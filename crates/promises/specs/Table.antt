@@ -14,9 +14,9 @@ use Rattle.rules.specs.Proved.{row-f, row-g}
 use Rattle.spend.specs.Meter.{refilled, cost}
 use Rattle.spend.specs.Proved.{row-h, row-i, row-j}
 use Rattle.image.specs.Fields.{partSpc, ingress}
-use Rattle.frame.specs.declared.Entered.the-variants.{Dropped}
+use Rattle.frame.specs.declared.Intake.the-variants.{Dropped}
 use Rattle.frame.specs.Bytes.{octetsOf, tagOf}
-use Rattle.frame.specs.Enter.{byTag, enteredOf}
+use Rattle.frame.specs.Intake.{byTag, intakeOf}
 use Rattle.frame.specs.Laws.{row-k-63, row-k-64}
 
 pub record ProvedTable : Type 0 where
@@ -30,9 +30,9 @@ pub record ProvedTable : Type 0 where
   pub h : ltb (refilled 64 64 0 511) (cost 64) ≡ true
   pub i : ltb (refilled 64 64 0 512) (cost 64) ≡ false
   pub j : (rate old elapsed : ℕ) → ltb (refilled 63 rate old elapsed) (cost 64) ≡ true
-  pub k : (image : List ℕ) (port : ℕ) (frame : List ℕ) → octetsOf frame ≡ 63 → enteredOf image port frame ≡ Dropped 1
+  pub k : (image : List ℕ) (port : ℕ) (frame : List ℕ) → octetsOf frame ≡ 63 → intakeOf image port frame ≡ Dropped 1
   pub k-on : (image : List ℕ) (port : ℕ) (frame : List ℕ) → octetsOf frame ≡ 64
-      → enteredOf image port frame ≡ cond (eqb (ingress image port) 0) (Dropped 2) (byTag image port (tagOf frame))
+      → intakeOf image port frame ≡ cond (eqb (ingress image port) 0) (Dropped 2) (byTag image port (tagOf frame))
 
 pub proved-table : ProvedTable
 proved-table =
