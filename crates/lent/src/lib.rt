@@ -45,3 +45,12 @@ pub fn step(image: &[u32], ledger: Ledger, event: Event, frame: &[u8]) -> Brough
         }
     }
 }
+
+// What a record tells; the ledger is left as the step leaves it.
+pub fn bring(image: &[u32], g: &mut Ledger, event: Event, frame: &[u8]) -> Told
+    ensures { λ r. ⌜ Brings (now (image .entry)) (now (g .entry) .cells) event (now (frame .entry)) r (now (g .exit) .cells) ⌝ }
+{
+    let k = step(image, *g, event, frame);
+    *g = k.ledger;
+    k.told
+}
