@@ -54,3 +54,12 @@ pub fn bring(image: &[u32], g: &mut Ledger, event: Event, frame: &[u8]) -> Told
     *g = k.ledger;
     k.told
 }
+
+// The same by a ledger of one's own that is lent: every caller that holds its ledger by value needs no walk.
+pub fn bring_once(image: &[u32], ledger: Ledger, event: Event, frame: &[u8]) -> Brought
+    ensures { λ r. ⌜ Brings (now (image .entry)) (ledger .cells) event (now (frame .entry)) (r .told) (r .ledger .cells) ⌝ }
+{
+    let mut g = ledger;
+    let told = bring(image, &mut g, event, frame);
+    Brought { told, ledger: g }
+}
