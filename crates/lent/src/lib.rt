@@ -1,45 +1,65 @@
-// The ledger, lent by `&mut` and brought up to date by each record: thin functions over the steps by value, each proved by a walk by hand.
-// A plain-parameter function above each serves every caller that holds its ledger by value, and needs no walk.
-use judge::Judged;
-use judge::Verdict;
+// The ledger, lent by `&mut` and brought up to date by each record: one step by value for frames and releases, and the loan around it.
+use judge::judge;
+use judge::settle::Verdict;
 use ledger::Answer;
 use ledger::Ledger;
-use ledger::Outcome;
-ghost use Rattle.judge.specs.Judge.{judged, Judges};
-ghost use Rattle.ledger.specs.Release.{Released};
+use ledger::units::release;
+ghost use Rattle.lent.specs.Brings.{Brings};
 
-// The verdict on a frame; the ledger is left as the verdict leaves it.
-pub fn judge_lent(image: &[u32], g: &mut Ledger, port: usize, time: u64, frame: &[u8]) -> Verdict
-    ensures { λ r. ⌜ Judges (now (image .entry)) (now (g .entry)) port time (now (frame .entry)) (judged r (now (g .exit))) ⌝ }
-{
-    let j = judge::judge(image, *g, port, time, frame);
-    *g = j.ledger;
-    j.verdict
+// A frame's port and time in µs, its bytes apart; a release of a partition.
+pub enum Event {
+    Frame(usize, u64),
+    Release(usize),
 }
 
-// The answer to a release; the ledger is left as the release leaves it.
-pub fn release_lent(image: &[u32], g: &mut Ledger, partition: usize) -> Answer
-    ensures { λ r. ⌜ Released (now (image .entry)) (now (g .entry)) partition (record { answer = r; ledger = now (g .exit) }) ⌝ }
-{
-    let o = ledger::units::release(image, *g, partition);
-    *g = o.ledger;
-    o.answer
+pub enum Told {
+    Judged(Verdict),
+    Released(Answer),
 }
 
-// The verdict on a frame and the ledger afterwards, by a ledger of one's own that is lent.
-pub fn judge_once(image: &[u32], ledger: Ledger, port: usize, time: u64, frame: &[u8]) -> Judged
-    ensures { λ r. ⌜ Judges (now (image .entry)) ledger port time (now (frame .entry)) r ⌝ }
+// What is told of a record, and the ledger afterwards.
+pub struct Brought {
+    pub told: Told,
+    pub ledger: Ledger,
+}
+
+// The step by value.
+pub fn step(image: &[u32], ledger: Ledger, event: Event, frame: &[u8]) -> Brought
+    ensures { λ r. ⌜ Brings (now (image .entry)) (ledger .cells) event (now (frame .entry)) (r .told) (r .ledger .cells) ⌝ }
+{
+    let mut cells = ledger.cells;
+    match event {
+        Event::Frame(port, time) => {
+            let verdict = judge(image, &mut cells, port, time, frame);
+            Brought {
+                told: Told::Judged(verdict),
+                ledger: Ledger { cells },
+            }
+        }
+        Event::Release(partition) => {
+            let answer = release(image, &mut cells, partition);
+            Brought {
+                told: Told::Released(answer),
+                ledger: Ledger { cells },
+            }
+        }
+    }
+}
+
+// What a record tells; the ledger is left as the step leaves it.
+pub fn bring(image: &[u32], g: &mut Ledger, event: Event, frame: &[u8]) -> Told
+    ensures { λ r. ⌜ Brings (now (image .entry)) (now (g .entry) .cells) event (now (frame .entry)) r (now (g .exit) .cells) ⌝ }
+{
+    let k = step(image, *g, event, frame);
+    *g = k.ledger;
+    k.told
+}
+
+// The same by a ledger of one's own that is lent: every caller that holds its ledger by value needs no walk.
+pub fn bring_once(image: &[u32], ledger: Ledger, event: Event, frame: &[u8]) -> Brought
+    ensures { λ r. ⌜ Brings (now (image .entry)) (ledger .cells) event (now (frame .entry)) (r .told) (r .ledger .cells) ⌝ }
 {
     let mut g = ledger;
-    let verdict = judge_lent(image, &mut g, port, time, frame);
-    Judged { verdict, ledger: g }
-}
-
-// The answer to a release and the ledger afterwards, likewise.
-pub fn release_once(image: &[u32], ledger: Ledger, partition: usize) -> Outcome
-    ensures { λ r. ⌜ Released (now (image .entry)) ledger partition r ⌝ }
-{
-    let mut g = ledger;
-    let answer = release_lent(image, &mut g, partition);
-    Outcome { answer, ledger: g }
+    let told = bring(image, &mut g, event, frame);
+    Brought { told, ledger: g }
 }
