@@ -11,6 +11,8 @@
 static unsigned passed, failed;
 
 #define HOLDS(condition) holds((condition) ? 1 : 0, #condition, __LINE__)
+/* All bytes of the first, those that belong to no field too. */
+#define SAME(one, other) (memcmp(&(one), &(other), sizeof(one)) == 0)
 
 static void holds(int condition, const char *words, int line)
 {
@@ -56,17 +58,6 @@ static int refused_with(const struct tailbow_verdict *verdict, uint32_t number)
     return verdict->kind == TAILBOW_VERDICT_REFUSED && verdict->number == number && verdict->ports == 0 && verdict->vlan == 0;
 }
 
-static int same_ledger(const struct tailbow_ledger *one, const struct tailbow_ledger *other)
-{
-    return memcmp(one, other, sizeof *one) == 0;
-}
-
-/* All bytes of two load states, also those that belong to no field. */
-static int same_load(const struct tailbow_load *one, const struct tailbow_load *other)
-{
-    return memcmp(one, other, sizeof *one) == 0;
-}
-
 /* K in writes of this length, from a load state that was anything. A fresh one is all 0; a write keeps the four bytes behind `table`. */
 static void in_writes(size_t length)
 {
@@ -77,7 +68,7 @@ static void in_writes(size_t length)
     uint8_t *behind_table = (uint8_t *)&load + offsetof(struct tailbow_load, table) + sizeof load.table;
     memset(&load, 0xA5, sizeof load);
     tailbow_fresh_load(&load);
-    HOLDS(memcmp(&load, zero, sizeof load) == 0);
+    HOLDS(SAME(load, zero));
     memcpy(behind_table, nobodys, sizeof nobodys);
     for (at = 0; at < count; at += length) {
         HOLDS(answer == TAILBOW_MORE);
@@ -86,7 +77,7 @@ static void in_writes(size_t length)
     HOLDS(answer == TAILBOW_LOADED && load.phase == TAILBOW_PHASE_TOLD && load.told == TAILBOW_LOADED);
     HOLDS(memcmp(behind_table, nobodys, sizeof nobodys) == 0);
     memcpy(&found, &load, sizeof load);
-    HOLDS(tailbow_write(image, TAILBOW_IMAGE_WORDS, &load, words, 1) == TAILBOW_LOADED && same_load(&load, &found));
+    HOLDS(tailbow_write(image, TAILBOW_IMAGE_WORDS, &load, words, 1) == TAILBOW_LOADED && SAME(load, found));
 }
 
 /* K as writes, as words and as bytes: one answer, one image; the buffer's rest is never written. */
@@ -98,13 +89,13 @@ static void loads(void)
     in_writes(TAILBOW_WRITE_WORDS);
     memcpy(written, image, sizeof written);
     in_writes(1);
-    HOLDS(memcmp(written, image, sizeof written) == 0);
+    HOLDS(SAME(written, image));
     HOLDS(tailbow_load_words(image, TAILBOW_IMAGE_WORDS, words, count - 1) == TAILBOW_REFUSED_WORDS_END && image_is(0));
     HOLDS(tailbow_load_words(image, TAILBOW_IMAGE_WORDS, words, count) == TAILBOW_LOADED);
-    HOLDS(memcmp(written, image, sizeof written) == 0);
+    HOLDS(SAME(written, image));
     memset(image, 0x5A, TAILBOW_IMAGE_WORDS * sizeof *image);
     HOLDS(tailbow_load_bytes(image, TAILBOW_IMAGE_WORDS, stream, bytes) == TAILBOW_LOADED);
-    HOLDS(memcmp(written, image, sizeof written) == 0);
+    HOLDS(SAME(written, image));
     HOLDS(image[TAILBOW_IMAGE_WORDS] == 77);
 }
 
@@ -116,13 +107,13 @@ static void refused_loads(void)
     memset(image, 0x5A, TAILBOW_IMAGE_WORDS * sizeof *image);
     memset(&load, 0xA5, sizeof load);
     memcpy(&found, &load, sizeof load);
-    HOLDS(tailbow_write(image, TAILBOW_IMAGE_WORDS - 1, &load, words, 0) == TAILBOW_REFUSED_BUFFER_SHORT && same_load(&load, &found));
-    HOLDS(tailbow_write(image, TAILBOW_IMAGE_WORDS, &load, words, 0) == TAILBOW_REFUSED_IMAGE && same_load(&load, &found));
+    HOLDS(tailbow_write(image, TAILBOW_IMAGE_WORDS - 1, &load, words, 0) == TAILBOW_REFUSED_BUFFER_SHORT && SAME(load, found));
+    HOLDS(tailbow_write(image, TAILBOW_IMAGE_WORDS, &load, words, 0) == TAILBOW_REFUSED_IMAGE && SAME(load, found));
     tailbow_fresh_load(&load);
     memcpy(&found, &load, sizeof load);
-    HOLDS(tailbow_write(image, TAILBOW_IMAGE_WORDS, &load, words, 0) == TAILBOW_REFUSED_WRITE_LENGTH && same_load(&load, &found));
+    HOLDS(tailbow_write(image, TAILBOW_IMAGE_WORDS, &load, words, 0) == TAILBOW_REFUSED_WRITE_LENGTH && SAME(load, found));
     HOLDS(tailbow_write(image, TAILBOW_IMAGE_WORDS, &load, words, TAILBOW_WRITE_WORDS + 1) == TAILBOW_REFUSED_WRITE_LENGTH);
-    HOLDS(same_load(&load, &found));
+    HOLDS(SAME(load, found));
     HOLDS(tailbow_load_words(image, TAILBOW_IMAGE_WORDS - 1, words, 1) == TAILBOW_REFUSED_BUFFER_SHORT);
     HOLDS(tailbow_load_bytes(image, TAILBOW_IMAGE_WORDS - 1, stream, bytes - 1) == TAILBOW_REFUSED_BUFFER_SHORT);
     HOLDS(tailbow_load_bytes(image, TAILBOW_IMAGE_WORDS, stream, bytes - 1) == TAILBOW_REFUSED_BYTE_COUNT);
@@ -161,10 +152,10 @@ static void ledgers(void)
     expected.units[0] = 1;
     for (meter = 0; meter < TAILBOW_METERS; meter++)
         expected.credit[meter] = UINT64_C(65535) * 8000000;
-    HOLDS(same_ledger(&fresh, &expected));
-    HOLDS(tailbow_fresh_ledger(image, TAILBOW_IMAGE_WORDS - 1, &fresh) == TAILBOW_REFUSED_BUFFER_SHORT && same_ledger(&fresh, &none));
+    HOLDS(SAME(fresh, expected));
+    HOLDS(tailbow_fresh_ledger(image, TAILBOW_IMAGE_WORDS - 1, &fresh) == TAILBOW_REFUSED_BUFFER_SHORT && SAME(fresh, none));
     memset(&fresh, 0xA5, sizeof fresh);
-    HOLDS(tailbow_fresh_ledger(empty, TAILBOW_IMAGE_WORDS, &fresh) == TAILBOW_REFUSED_IMAGE && same_ledger(&fresh, &none));
+    HOLDS(tailbow_fresh_ledger(empty, TAILBOW_IMAGE_WORDS, &fresh) == TAILBOW_REFUSED_IMAGE && SAME(fresh, none));
 }
 
 /* K's list by hand. */
@@ -188,13 +179,13 @@ static int frame_refused(const uint32_t *lent, size_t image_words, struct tailbo
 {
     struct tailbow_ledger found = ledger;
     struct tailbow_verdict verdict = tailbow_judge(lent, image_words, &ledger, port, time, broadcast, count);
-    return refused_with(&verdict, number) && same_ledger(&ledger, &found);
+    return refused_with(&verdict, number) && SAME(ledger, found);
 }
 
 static int release_refused(const uint32_t *lent, size_t image_words, struct tailbow_ledger ledger, size_t partition, uint32_t number)
 {
     struct tailbow_ledger found = ledger;
-    return tailbow_release(lent, image_words, &ledger, partition) == number && same_ledger(&ledger, &found);
+    return tailbow_release(lent, image_words, &ledger, partition) == number && SAME(ledger, found);
 }
 
 /* Each refusal of a frame and of a release, before those behind it. */
@@ -226,7 +217,7 @@ static int shows(const uint32_t *lent, size_t image_words, struct tailbow_ledger
 {
     struct tailbow_ledger found = ledger;
     struct tailbow_port_tile tile = tailbow_tile(lent, image_words, &ledger, port);
-    return tile.kind == kind && tile.number == number && tile.share == share && tile.octets == share && same_ledger(&ledger, &found);
+    return tile.kind == kind && tile.number == number && tile.share == share && tile.octets == share && SAME(ledger, found);
 }
 
 /* K's tiles, from the counts that document 01 prints; then each tile that shows no share. */
@@ -275,7 +266,7 @@ static void nulls(void)
     HOLDS(tailbow_load_words(NULL, 0, words, 1) == TAILBOW_REFUSED_BUFFER_SHORT);
     HOLDS(tailbow_load_bytes(NULL, 0, stream, 1) == TAILBOW_REFUSED_BUFFER_SHORT);
     verdict = tailbow_judge(NULL, 0, &ledger, 0, 10, NULL, 0);
-    HOLDS(refused_with(&verdict, TAILBOW_REFUSED_BUFFER_SHORT) && same_ledger(&ledger, &found));
+    HOLDS(refused_with(&verdict, TAILBOW_REFUSED_BUFFER_SHORT) && SAME(ledger, found));
     verdict = tailbow_judge(image, TAILBOW_IMAGE_WORDS, &ledger, 0, 10, NULL, 0);
     HOLDS(dropped_with(&verdict, TAILBOW_DROP_SHORT) && ledger.last == 10 && ledger.dropped[0] == 4);
     HOLDS(tailbow_release(NULL, 0, &ledger, 0) == TAILBOW_REFUSED_BUFFER_SHORT);
