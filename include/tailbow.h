@@ -3,18 +3,20 @@
  *
  * Link libtailbow_c.a, which `rt staticlib tailbow_c` writes to target/staticlib/ once the crate is proved. It is for x86-64
  * and needs memcpy and memset, nothing else. The entries allocate nothing, print nothing and keep nothing between two
- * calls: all that they know is in what the caller passes. So calls on different buffers may run at the same time.
+ * calls: all that they know is in what the caller lends. So calls on different buffers, load states and ledgers may run at the same time.
  *
  * What holds for every entry:
  *
  * - Each entry tests what it needs and refuses by number. Numbers of any value may be passed, also in a load state or a ledger.
  * - A pointer with a length is a slice. It must point to that many elements, aligned for their type, that nobody else
- *   writes during the call; an element lent for writing must not lie in any other slice of the same call. This alone can't be
- *   tested by the entry, and is the caller's to keep.
+ *   writes during the call; an element lent for writing must not lie in any other slice of the same call.
+ * - A load state and a ledger are lent where they lie. The pointer must not be null: it must point to one such struct, aligned, that nobody
+ *   else writes during the call and that lies in no slice of the call.
+ * - These two alone can't be tested by an entry, and are the caller's to keep.
  * - Where a length is 0 no element is read or written. The pointer should still be one that isn't null, as to any object.
  *   A null pointer with length 0 has been tried in every place of this archive and did no harm, yet no proof speaks of it.
  * - The image is the first TAILBOW_IMAGE_WORDS words of a buffer that the caller lends. The buffer's rest is never read or written.
- * - A buffer that is const here is left as it was.
+ * - What is const here is left as it was.
  *
  * Numbers and rules are those of document 01. The comment over each entry gives its refusals in the order in which they are
  * tested: the first that applies is the answer.
@@ -119,7 +121,7 @@ extern "C" {
 #define TAILBOW_PHASE_TOLD 5u                  /* none: an answer has been told */
 
 /*
- * A load state. A caller hands it from one write to the next and need not look inside. Any numbers may stand in it: those that
+ * A load state. A caller makes a fresh one, lends it to each write, and need not look inside. Any numbers may stand in it: those that
  * can't be a load under way are refused with 30.
  */
 struct tailbow_load {
@@ -134,14 +136,11 @@ struct tailbow_load {
     uint32_t block;  /* the checksum register over the block's data so far */
 };
 
-/* What a write answers, and the load state for the next write. */
-struct tailbow_wrote {
-    uint32_t answer; /* TAILBOW_LOADED, TAILBOW_MORE or a refusal */
-    struct tailbow_load load;
-};
-
-/* The load state before a first write: every number 0. It refuses nothing. */
-struct tailbow_load tailbow_fresh_load(void);
+/*
+ * The load state before a first write: each of its 48 bytes becomes 0, whatever stood there, also the four behind `table` that belong to
+ * no field. It refuses nothing.
+ */
+void tailbow_fresh_load(struct tailbow_load *load);
 
 /*
  * A write of 1 to 64 words to a load.
@@ -162,18 +161,10 @@ struct tailbow_load tailbow_fresh_load(void);
  *                 The image is zero.
  * 20 to 25        The first loading rule broken. The image is zero.
  *
- * Words behind an answer are ignored. `load` of what is returned is the state for the next write: after an answer it holds
- * TAILBOW_PHASE_TOLD and the answer, all else 0. Neither 9 nor 10 is an answer here.
+ * Words behind an answer are ignored. Afterwards *load is the state for the next write: after an answer it holds
+ * TAILBOW_PHASE_TOLD and the answer, all else 0. The four bytes behind `table` are kept in any case. Neither 9 nor 10 is an answer here.
  */
-struct tailbow_wrote tailbow_write(uint32_t *image, size_t image_words, struct tailbow_load load, const uint32_t *words, size_t count);
-
-/*
- * The same write to a load state that is lent: the answer is `answer` of what tailbow_write returns, and afterwards *load is its `load`, so a
- * refusal and a repeated answer leave it as found. The four bytes behind `table`, which belong to no field, are kept.
- * Where writes are short or many this is the quicker one: the state is not copied.
- * The load state must point to one struct tailbow_load that lies in no slice of the call. It must not be null.
- */
-uint32_t tailbow_write_lent(uint32_t *image, size_t image_words, struct tailbow_load *load, const uint32_t *words, size_t count);
+uint32_t tailbow_write(uint32_t *image, size_t image_words, struct tailbow_load *load, const uint32_t *words, size_t count);
 
 /*
  * A whole stream of words.
@@ -198,8 +189,8 @@ uint32_t tailbow_load_bytes(uint32_t *image, size_t image_words, const uint8_t *
 /* ---- Frames, releases and tiles ---- */
 
 /*
- * What one night has come to: 119 numbers. A caller makes a fresh one for a loaded image and has it brought up to date by each frame and
- * release. Any numbers may stand in it. 39 refuses these, in whichever port, meter or partition they stand:
+ * What one night has come to: 119 numbers. A caller makes a fresh one for a loaded image and lends it to each frame, release and tile.
+ * Any numbers may stand in it. 39 refuses these, in whichever port, meter or partition they stand:
  * units above PART_SPC; credit above SMAX x 8,000,000, or above 0 for an entry that isn't loaded; since above last; drops above
  * frames; octets not from 4 x frames to 4,100 x frames; dropped not from 4 x drops to 4,100 x drops, or above octets; last above 2^48 - 1.
  */
@@ -212,12 +203,6 @@ struct tailbow_ledger {
     uint64_t octets[TAILBOW_PORTS];     /* the sum of L over the frames */
     uint64_t dropped[TAILBOW_PORTS];    /* the sum of L over the drops */
     uint64_t last;                      /* the last time */
-};
-
-/* The refusal's number, 0 for none, and the ledger afterwards. */
-struct tailbow_outcome {
-    uint32_t number;
-    struct tailbow_ledger ledger;
 };
 
 /* A verdict's `kind`. */
@@ -234,12 +219,6 @@ struct tailbow_verdict {
     uint64_t priority;              /* the new priority, q */
     uint64_t tags;                  /* those of the ports that send a tag */
     uint64_t queues[TAILBOW_PORTS]; /* its queue at each port, 0 where it isn't sent */
-};
-
-/* A verdict, and the ledger afterwards. */
-struct tailbow_judged {
-    struct tailbow_verdict verdict;
-    struct tailbow_ledger ledger;
 };
 
 /* A tile's `kind`. Nothing is not zero: only TAILBOW_TILE_SHARES has shares. */
@@ -262,13 +241,13 @@ struct tailbow_port_tile {
  * 31  image_words is below TAILBOW_IMAGE_WORDS.
  * 30  The image isn't marked loaded, or a table's count is above its most entries or such as rule 20 refuses.
  *
- * Beside a refusal stands a ledger that 39 refuses under every image: `last` is 2^48, all else 0.
+ * Otherwise the answer is TAILBOW_DONE. All 119 numbers are filled, whatever stood there: with the fresh ledger, or beside a refusal with one
+ * that 39 refuses under every image (`last` is 2^48, all else 0). The ledger is never left as found.
  */
-struct tailbow_outcome tailbow_fresh_ledger(const uint32_t *image, size_t image_words);
+uint32_t tailbow_fresh_ledger(const uint32_t *image, size_t image_words, struct tailbow_ledger *ledger);
 
 /*
- * The verdict on a frame that came in at a port at a time in microseconds: its bytes without the checksum. The ledger is passed and
- * returned by value; tailbow_judge_lent does the same where the ledger lies.
+ * The verdict on a frame that came in at a port at a time in microseconds: its bytes without the checksum.
  *
  * 31  image_words is below TAILBOW_IMAGE_WORDS.
  * 30  The image isn't marked loaded, or a table's count is above its most entries or such as rule 20 refuses.
@@ -278,20 +257,13 @@ struct tailbow_outcome tailbow_fresh_ledger(const uint32_t *image, size_t image_
  * 35  bytes is above TAILBOW_FRAME_BYTES.
  * 38  The port's frames are at 2^32 - 1 or above.
  *
- * A refusal has TAILBOW_VERDICT_REFUSED and its number, and the ledger is returned as it was passed. Otherwise the verdict is
+ * A refusal has TAILBOW_VERDICT_REFUSED and its number, and leaves the ledger as found. Otherwise the verdict is
  * the first of the drops 1 to 11 that applies, or a sending. The ledger afterwards has the time as its last time and one frame of L octets
  * more at the port, and one drop of L octets more where it was dropped. From drop 9 on the meter has its credit and this time, and unless the
  * meter was short the frame's cost is spent, at drops 10 and 11 too. A sending takes one unit of its partition.
  */
-struct tailbow_judged tailbow_judge(const uint32_t *image, size_t image_words, struct tailbow_ledger ledger, size_t port, uint64_t time,
-                                    const uint8_t *frame, size_t bytes);
-
-/*
- * The same verdict on a ledger that is lent: afterwards *ledger is the ledger that tailbow_judge returns, so a refusal leaves it as found.
- * The ledger must point to one struct tailbow_ledger that lies in no slice of the call. It must not be null.
- */
-struct tailbow_verdict tailbow_judge_lent(const uint32_t *image, size_t image_words, struct tailbow_ledger *ledger, size_t port,
-                                          uint64_t time, const uint8_t *frame, size_t bytes);
+struct tailbow_verdict tailbow_judge(const uint32_t *image, size_t image_words, struct tailbow_ledger *ledger, size_t port, uint64_t time,
+                                     const uint8_t *frame, size_t bytes);
 
 /*
  * One unit of a partition comes back.
@@ -302,16 +274,10 @@ struct tailbow_verdict tailbow_judge_lent(const uint32_t *image, size_t image_wo
  * 36  The partition is above 7.
  * 37  Nothing of it is out: its units are at PART_SPC.
  *
- * A refusal returns the ledger as it was passed. Otherwise number is TAILBOW_DONE, and the partition has one unit more; nothing else
+ * A refusal leaves the ledger as found. Otherwise the answer is TAILBOW_DONE, and the partition has one unit more; nothing else
  * changes, the last time neither.
  */
-struct tailbow_outcome tailbow_release(const uint32_t *image, size_t image_words, struct tailbow_ledger ledger, size_t partition);
-
-/*
- * The same on a ledger that is lent: the refusal's number, 0 for none. Afterwards *ledger is the ledger that tailbow_release returns.
- * The ledger must point to one struct tailbow_ledger that lies in no slice of the call. It must not be null.
- */
-uint32_t tailbow_release_lent(const uint32_t *image, size_t image_words, struct tailbow_ledger *ledger, size_t partition);
+uint32_t tailbow_release(const uint32_t *image, size_t image_words, struct tailbow_ledger *ledger, size_t partition);
 
 /*
  * What the screen shows of a port. It changes nothing.
@@ -323,7 +289,7 @@ uint32_t tailbow_release_lent(const uint32_t *image, size_t image_words, struct 
  * no-frames   No frame was judged at the port. There is no share, not a share of zero.
  * shares      drops over frames and dropped over octets, each one division of two doubles, by their exact bits. +0 where nothing was dropped.
  */
-struct tailbow_port_tile tailbow_tile(const uint32_t *image, size_t image_words, struct tailbow_ledger ledger, size_t port);
+struct tailbow_port_tile tailbow_tile(const uint32_t *image, size_t image_words, const struct tailbow_ledger *ledger, size_t port);
 
 /* ---- Frame lists ---- */
 
@@ -387,9 +353,6 @@ TAILBOW_AT(tailbow_load, second, 36, 4);
 TAILBOW_AT(tailbow_load, stream, 40, 4);
 TAILBOW_AT(tailbow_load, block, 44, 4);
 TAILBOW_LONG(tailbow_load, 48);
-TAILBOW_AT(tailbow_wrote, answer, 0, 4);
-TAILBOW_AT(tailbow_wrote, load, 8, 48);
-TAILBOW_LONG(tailbow_wrote, 56);
 TAILBOW_AT(tailbow_ledger, units, 0, 64);
 TAILBOW_AT(tailbow_ledger, credit, 64, 360);
 TAILBOW_AT(tailbow_ledger, since, 424, 360);
@@ -399,9 +362,6 @@ TAILBOW_AT(tailbow_ledger, octets, 864, 40);
 TAILBOW_AT(tailbow_ledger, dropped, 904, 40);
 TAILBOW_AT(tailbow_ledger, last, 944, 8);
 TAILBOW_LONG(tailbow_ledger, 952);
-TAILBOW_AT(tailbow_outcome, number, 0, 4);
-TAILBOW_AT(tailbow_outcome, ledger, 8, 952);
-TAILBOW_LONG(tailbow_outcome, 960);
 TAILBOW_AT(tailbow_verdict, kind, 0, 4);
 TAILBOW_AT(tailbow_verdict, number, 4, 4);
 TAILBOW_AT(tailbow_verdict, ports, 8, 8);
@@ -410,9 +370,6 @@ TAILBOW_AT(tailbow_verdict, priority, 24, 8);
 TAILBOW_AT(tailbow_verdict, tags, 32, 8);
 TAILBOW_AT(tailbow_verdict, queues, 40, 40);
 TAILBOW_LONG(tailbow_verdict, 80);
-TAILBOW_AT(tailbow_judged, verdict, 0, 80);
-TAILBOW_AT(tailbow_judged, ledger, 80, 952);
-TAILBOW_LONG(tailbow_judged, 1032);
 TAILBOW_AT(tailbow_port_tile, kind, 0, 4);
 TAILBOW_AT(tailbow_port_tile, number, 4, 4);
 TAILBOW_AT(tailbow_port_tile, share, 8, 8);

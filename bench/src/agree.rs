@@ -371,9 +371,10 @@ fn fresh(agreed: &mut Agreed, image: &[u32]) -> Result<Option<Ledger>, String> {
         Ok(ledger) => (0, *ledger),
         Err(number) => (*number, ledger::no_ledger()),
     };
-    let expected = FlatOutcome { number, ledger: flat(&after) };
-    let told = [(OURS.fresh_ledger)(image), (PEER.fresh_ledger)(image)];
-    same("fresh ledger", &told[0], &told[1], &expected)?;
+    let (mut ours, mut peer) = (FlatLedger::all(u64::MAX), FlatLedger::all(u64::MAX));
+    let told = [(OURS.fresh_ledger)(image, &mut ours), (PEER.fresh_ledger)(image, &mut peer)];
+    same("fresh ledger's answer", &told[0], &told[1], &number)?;
+    same("fresh ledger", &ours, &peer, &flat(&after))?;
     agreed.calls += 1;
     Ok(answer.ok())
 }

@@ -64,12 +64,20 @@ pub struct FlatLedger {
     pub last: u64,
 }
 
-/// A refusal's number, 0 for none, and the ledger after it.
-#[repr(C)]
-#[derive(Clone, Copy, PartialEq, Eq, Debug)]
-pub struct FlatOutcome {
-    pub number: u32,
-    pub ledger: FlatLedger,
+impl FlatLedger {
+    /// One number throughout: what is lent where all of it is filled.
+    pub fn all(number: u64) -> FlatLedger {
+        FlatLedger {
+            units: [number; 8],
+            credit: [number; 45],
+            since: [number; 45],
+            frames: [number; 5],
+            drops: [number; 5],
+            octets: [number; 5],
+            dropped: [number; 5],
+            last: number,
+        }
+    }
 }
 
 /// 0 refused, 1 dropped, 2 sent; the number of the first two, the values of the last.
@@ -95,12 +103,12 @@ pub struct FlatTile {
     pub octets: u64,
 }
 
-/// One of the two programs: the same calls in both.
+/// One of the two programs: the same calls in both. Load state and ledger are lent.
 pub struct Program {
     pub load_words: fn(&mut [u32], &[u32]) -> u32,
     pub load_bytes: fn(&mut [u32], &[u8]) -> u32,
     pub write: fn(&mut [u32], &mut FlatLoad, &[u32]) -> u32,
-    pub fresh_ledger: fn(&[u32]) -> FlatOutcome,
+    pub fresh_ledger: fn(&[u32], &mut FlatLedger) -> u32,
     pub judge: fn(&[u32], &mut FlatLedger, usize, u64, &[u8]) -> FlatVerdict,
     pub release: fn(&[u32], &mut FlatLedger, usize) -> u32,
     pub tile: fn(&[u32], &FlatLedger, usize) -> FlatTile,

@@ -71,7 +71,7 @@ fn time() -> Result<(), String> {
         "Times are medians of {} rounds; q1 and q3 are of the rounds' ratios.",
         measure::ROUNDS
     );
-    println!("Ledger and load state are lent to both; Tailbow's tile takes its ledger by value.");
+    println!("Ledger and load state are lent to both.");
     println!();
     let main: Vec<Measured> = works::MAIN.iter().map(|(name, _)| timed(name)).collect();
     print_table(&main);

@@ -1,15 +1,15 @@
 //! Tailbow: the proved entries of the archive, behind the calls that both programs have.
 
-use crate::flat::{FlatLedger, FlatLoad, FlatOutcome, FlatTile, FlatVerdict, Program};
+use crate::flat::{FlatLedger, FlatLoad, FlatTile, FlatVerdict, Program};
 
 pub const OURS: Program =
     Program { load_words, load_bytes, write, fresh_ledger, judge, release, tile };
 
 mod linked {
-    use crate::flat::{FlatLedger, FlatLoad, FlatOutcome, FlatTile, FlatVerdict};
+    use crate::flat::{FlatLedger, FlatLoad, FlatTile, FlatVerdict};
 
     extern "C" {
-        pub fn tailbow_write_lent(
+        pub fn tailbow_write(
             image: *mut u32,
             image_words: usize,
             load: *mut FlatLoad,
@@ -28,8 +28,12 @@ mod linked {
             bytes: *const u8,
             count: usize,
         ) -> u32;
-        pub fn tailbow_fresh_ledger(image: *const u32, words: usize) -> FlatOutcome;
-        pub fn tailbow_judge_lent(
+        pub fn tailbow_fresh_ledger(
+            image: *const u32,
+            words: usize,
+            ledger: *mut FlatLedger,
+        ) -> u32;
+        pub fn tailbow_judge(
             image: *const u32,
             words: usize,
             ledger: *mut FlatLedger,
@@ -38,7 +42,7 @@ mod linked {
             frame: *const u8,
             bytes: usize,
         ) -> FlatVerdict;
-        pub fn tailbow_release_lent(
+        pub fn tailbow_release(
             image: *const u32,
             words: usize,
             ledger: *mut FlatLedger,
@@ -47,7 +51,7 @@ mod linked {
         pub fn tailbow_tile(
             image: *const u32,
             words: usize,
-            ledger: FlatLedger,
+            ledger: *const FlatLedger,
             port: usize,
         ) -> FlatTile;
     }
@@ -63,17 +67,15 @@ fn load_bytes(image: &mut [u32], bytes: &[u8]) -> u32 {
     unsafe { linked::tailbow_load_bytes(lent, length, bytes.as_ptr(), bytes.len()) }
 }
 
-/// The state is lent, as the peer's is.
 fn write(image: &mut [u32], load: &mut FlatLoad, words: &[u32]) -> u32 {
     let (lent, length) = (image.as_mut_ptr(), image.len());
-    unsafe { linked::tailbow_write_lent(lent, length, load, words.as_ptr(), words.len()) }
+    unsafe { linked::tailbow_write(lent, length, load, words.as_ptr(), words.len()) }
 }
 
-fn fresh_ledger(image: &[u32]) -> FlatOutcome {
-    unsafe { linked::tailbow_fresh_ledger(image.as_ptr(), image.len()) }
+fn fresh_ledger(image: &[u32], ledger: &mut FlatLedger) -> u32 {
+    unsafe { linked::tailbow_fresh_ledger(image.as_ptr(), image.len(), ledger) }
 }
 
-/// The ledger is lent, as the peer's is.
 fn judge(
     image: &[u32],
     ledger: &mut FlatLedger,
@@ -83,15 +85,13 @@ fn judge(
 ) -> FlatVerdict {
     let (lent, words) = (image.as_ptr(), image.len());
     let (bytes, count) = (frame.as_ptr(), frame.len());
-    unsafe { linked::tailbow_judge_lent(lent, words, ledger, port, time, bytes, count) }
+    unsafe { linked::tailbow_judge(lent, words, ledger, port, time, bytes, count) }
 }
 
-/// The ledger is lent, as the peer's is.
 fn release(image: &[u32], ledger: &mut FlatLedger, partition: usize) -> u32 {
-    unsafe { linked::tailbow_release_lent(image.as_ptr(), image.len(), ledger, partition) }
+    unsafe { linked::tailbow_release(image.as_ptr(), image.len(), ledger, partition) }
 }
 
-/// By value, as the entry is.
 fn tile(image: &[u32], ledger: &FlatLedger, port: usize) -> FlatTile {
-    unsafe { linked::tailbow_tile(image.as_ptr(), image.len(), *ledger, port) }
+    unsafe { linked::tailbow_tile(image.as_ptr(), image.len(), ledger, port) }
 }

@@ -38,16 +38,16 @@ static uint32_t send_words(FILE *stream)
 {
     uint8_t bytes[4 * TAILBOW_WRITE_WORDS];
     uint32_t words[TAILBOW_WRITE_WORDS];
-    struct tailbow_load load = tailbow_fresh_load();
+    struct tailbow_load load;
     size_t count, i;
+    tailbow_fresh_load(&load);
     while ((count = fread(bytes, 1, sizeof bytes, stream) / 4) > 0) {
-        struct tailbow_wrote wrote;
+        uint32_t answer;
         for (i = 0; i < count; i++)
             words[i] = word_of(bytes + 4 * i);
-        wrote = tailbow_write(image, TAILBOW_IMAGE_WORDS, load, words, count);
-        if (wrote.answer != TAILBOW_MORE)
-            return wrote.answer;
-        load = wrote.load;
+        answer = tailbow_write(image, TAILBOW_IMAGE_WORDS, &load, words, count);
+        if (answer != TAILBOW_MORE)
+            return answer;
     }
     return TAILBOW_REFUSED_WORDS_END;
 }
@@ -104,11 +104,11 @@ static void walk(struct tailbow_ledger *ledger, size_t bytes)
             return;
         }
         if (record.kind == TAILBOW_RECORD_FRAME) {
-            struct tailbow_verdict verdict = tailbow_judge_lent(image, TAILBOW_IMAGE_WORDS, ledger, record.port, record.time,
-                                                                list + record.start, record.count);
+            struct tailbow_verdict verdict = tailbow_judge(image, TAILBOW_IMAGE_WORDS, ledger, record.port, record.time,
+                                                           list + record.start, record.count);
             print_verdict(number, &verdict);
         } else {
-            print_release(number, tailbow_release_lent(image, TAILBOW_IMAGE_WORDS, ledger, record.partition));
+            print_release(number, tailbow_release(image, TAILBOW_IMAGE_WORDS, ledger, record.partition));
         }
         at = record.next;
     }
@@ -117,7 +117,7 @@ static void walk(struct tailbow_ledger *ledger, size_t bytes)
 /* A share is printed by its bits. */
 static void print_tile(const struct tailbow_ledger *ledger, size_t port)
 {
-    struct tailbow_port_tile tile = tailbow_tile(image, TAILBOW_IMAGE_WORDS, *ledger, port);
+    struct tailbow_port_tile tile = tailbow_tile(image, TAILBOW_IMAGE_WORDS, ledger, port);
     printf("tile %zu ", port);
     switch (tile.kind) {
     case TAILBOW_TILE_NOT_LOADED:
@@ -139,15 +139,16 @@ int main(int arguments, char **argument)
 {
     uint32_t answer = load_stream(arguments > 1 ? argument[1] : NULL);
     /* Beside a refused load the ledger is one that is never taken, and every tile is not-loaded. */
-    struct tailbow_outcome fresh = tailbow_fresh_ledger(image, TAILBOW_IMAGE_WORDS);
+    struct tailbow_ledger ledger;
+    uint32_t fresh = tailbow_fresh_ledger(image, TAILBOW_IMAGE_WORDS, &ledger);
     size_t port;
-    if (answer == TAILBOW_LOADED && fresh.number == TAILBOW_DONE) {
+    if (answer == TAILBOW_LOADED && fresh == TAILBOW_DONE) {
         printf("config loaded\n");
-        walk(&fresh.ledger, fread(list, 1, sizeof list, stdin));
+        walk(&ledger, fread(list, 1, sizeof list, stdin));
     } else {
         printf("config refused %" PRIu32 "\n", answer);
     }
     for (port = 0; port < TAILBOW_PORTS; port++)
-        print_tile(&fresh.ledger, port);
+        print_tile(&ledger, port);
     return fflush(stdout) == 0 ? 0 : 1;
 }

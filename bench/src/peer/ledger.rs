@@ -1,6 +1,6 @@
 //! The ledger: fresh, in range, and a port's tile.
 
-use crate::flat::{FlatLedger, FlatOutcome, FlatTile};
+use crate::flat::{FlatLedger, FlatTile};
 
 use super::image::*;
 
@@ -13,34 +13,23 @@ pub fn most_credit(high_word: u32) -> u64 {
     u64::from(high_word >> 10 & 0xFFFF) * CREDIT_A_BYTE
 }
 
-fn empty(last: u64) -> FlatLedger {
-    FlatLedger {
-        units: [0; 8],
-        credit: [0; 45],
-        since: [0; 45],
-        frames: [0; 5],
-        drops: [0; 5],
-        octets: [0; 5],
-        dropped: [0; 5],
-        last,
-    }
-}
-
+/// Refusals 31, 30, beside which the ledger is one that 39 refuses; 0 where it is fresh.
 #[inline(never)]
-pub fn fresh_ledger(image: &[u32]) -> FlatOutcome {
-    let refused = |number| FlatOutcome { number, ledger: empty(LAST_TIME + 1) };
+pub fn fresh_ledger(image: &[u32], ledger: &mut FlatLedger) -> u32 {
+    *ledger = FlatLedger::all(0);
+    ledger.last = LAST_TIME + 1;
     let Some(image) = image_of(image) else {
-        return refused(31);
+        return 31;
     };
     if !is_loaded(image) {
-        return refused(30);
+        return 30;
     }
-    let mut outcome = FlatOutcome { number: 0, ledger: empty(0) };
-    outcome.ledger.units = part_spc(image);
-    for (credit, entry) in outcome.ledger.credit.iter_mut().zip(entries::<2>(image, POLICING)) {
+    ledger.last = 0;
+    ledger.units = part_spc(image);
+    for (credit, entry) in ledger.credit.iter_mut().zip(entries::<2>(image, POLICING)) {
         *credit = most_credit(entry[1]);
     }
-    outcome
+    0
 }
 
 /// Refusal 39. The top bit of `(most - value) | value` says "above", where `most` is below 2^63.

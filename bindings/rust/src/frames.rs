@@ -62,14 +62,26 @@ pub struct Counts {
     pub dropped_octets: u64,
 }
 
+/// Numbers to lend where each of them is filled. Left as they are, 39 would refuse them: the last time is none.
+const NOT_YET: raw::FlatLedger = raw::FlatLedger {
+    units: [0; 8],
+    credit: [0; 45],
+    since: [0; 45],
+    frames: [0; 5],
+    drops: [0; 5],
+    octets: [0; 5],
+    dropped: [0; 5],
+    last: u64::MAX,
+};
+
 impl Ledger {
     /// A fresh ledger of an image: partitions at PART_SPC, meters full, times and counts 0.
     ///
     /// Refusals, in this order: 31 for a short buffer, 30 for an image that isn't loaded.
     pub fn fresh(image: &[u32]) -> Result<Ledger, Refusal> {
-        let outcome = raw::fresh_ledger(image);
-        done(outcome.number)?;
-        Ok(Ledger { flat: outcome.ledger })
+        let mut flat = NOT_YET;
+        done(raw::fresh_ledger(image, &mut flat))?;
+        Ok(Ledger { flat })
     }
 
     /// The verdict on a frame that came in at a port at a time in µs: its bytes without the checksum.
@@ -84,7 +96,7 @@ impl Ledger {
         time: u64,
         frame: &[u8],
     ) -> Result<Verdict, Refusal> {
-        let verdict = raw::judge_lent(image, &mut self.flat, port, time, frame);
+        let verdict = raw::judge(image, &mut self.flat, port, time, frame);
         match verdict.kind {
             0 => Err(refusal(verdict.number)),
             1 => Ok(Verdict::Drop(drop_cause(verdict.number))),
@@ -96,7 +108,7 @@ impl Ledger {
     ///
     /// Refusals change nothing. In this order: 31, 30, 39, 36 for a partition above 7, 37 where nothing of it is out.
     pub fn release(&mut self, image: &[u32], partition: usize) -> Result<(), Refusal> {
-        done(raw::release_lent(image, &mut self.flat, partition))
+        done(raw::release(image, &mut self.flat, partition))
     }
 
     /// What the screen shows of a port.
@@ -104,7 +116,7 @@ impl Ledger {
     /// In this order: refusal 31, refusal 33, [`Tile::NotLoaded`] where a frame would be refused with 30, refusal 39, and then the
     /// tile of the port's counts.
     pub fn tile(&self, image: &[u32], port: usize) -> Result<Tile, Refusal> {
-        let tile = raw::tile(image, self.flat, port);
+        let tile = raw::tile(image, &self.flat, port);
         match tile.kind {
             0 => Err(refusal(tile.number)),
             1 => Ok(Tile::NotLoaded),

@@ -36,7 +36,9 @@ pub struct Load {
 impl Load {
     /// A load before its first write.
     pub fn fresh() -> Load {
-        Load { flat: raw::fresh_load() }
+        let mut flat = raw::FlatLoad::default();
+        raw::fresh_load(&mut flat);
+        Load { flat }
     }
 
     /// A write of 1 to 64 words; the first one zeroes the image.
@@ -46,7 +48,7 @@ impl Load {
     /// words due than the block's table has room for, 32 for 0 words or more than 64. Once an answer has been told it is repeated, and
     /// nothing is written. 1 to 8 and 20 to 25 leave the image zero; words behind an answer are ignored.
     pub fn write(&mut self, image: &mut [u32], words: &[u32]) -> Answer {
-        Answer::of(raw::write_lent(image, &mut self.flat, words))
+        Answer::of(raw::write(image, &mut self.flat, words))
     }
 
     /// The load's answer, once it has been told: loaded, or the first broken rule.

@@ -1,4 +1,5 @@
 //! The entries as the archive has them: a state, a ledger, a verdict and a tile are structs of numbers, an answer is a number.
+//! A load state and a ledger are lent, and brought up to date where they lie.
 //!
 //! Every function here takes any numbers and any slices, and refuses by number what it can't take; so all of them are safe.
 //! `include/tailbow.h` has the same functions and structs for C, with each one's promise in words.
@@ -6,9 +7,9 @@
 /// "More" as a number; document 01 gives it none.
 pub const MORE: u32 = 0xFFFF_FFFF;
 
-/// A load state as numbers.
+/// A load state as numbers. The default is all 0, as a fresh load is.
 #[repr(C)]
-#[derive(Clone, Copy, PartialEq, Eq, Debug)]
+#[derive(Clone, Copy, PartialEq, Eq, Debug, Default)]
 pub struct FlatLoad {
     /// Which word comes next: 0 word 0, 1 to 3 a header's words, 4 data or its checksum, 5 none: an answer has been told.
     pub phase: u32,
@@ -28,16 +29,6 @@ pub struct FlatLoad {
     pub stream: u32,
     /// The checksum register over the block's data so far.
     pub block: u32,
-}
-
-/// A write's answer as a number, and the load state after it.
-#[repr(C)]
-#[derive(Clone, Copy, PartialEq, Eq, Debug)]
-pub struct FlatWrote {
-    /// 0 for loaded, [`MORE`], or a refusal's number.
-    pub answer: u32,
-    /// The state for the next write.
-    pub load: FlatLoad,
 }
 
 /// A ledger as numbers.
@@ -62,16 +53,6 @@ pub struct FlatLedger {
     pub last: u64,
 }
 
-/// A refusal's number, 0 for none, and the ledger after it.
-#[repr(C)]
-#[derive(Clone, Copy, PartialEq, Eq, Debug)]
-pub struct FlatOutcome {
-    /// The refusal's number, or 0.
-    pub number: u32,
-    /// The ledger afterwards.
-    pub ledger: FlatLedger,
-}
-
 /// A verdict as numbers. What a kind does not have is 0.
 #[repr(C)]
 #[derive(Clone, Copy, PartialEq, Eq, Debug)]
@@ -90,16 +71,6 @@ pub struct FlatVerdict {
     pub tags: u64,
     /// Its queue at each port, 0 where it isn't sent.
     pub queues: [u64; 5],
-}
-
-/// A verdict, and the ledger after it.
-#[repr(C)]
-#[derive(Clone, Copy, PartialEq, Eq, Debug)]
-pub struct FlatJudged {
-    /// The verdict.
-    pub verdict: FlatVerdict,
-    /// The ledger afterwards.
-    pub ledger: FlatLedger,
 }
 
 /// A tile as numbers. What a kind does not have is 0.
@@ -139,20 +110,11 @@ pub struct FlatRecord {
 }
 
 mod linked {
-    use super::{
-        FlatJudged, FlatLedger, FlatLoad, FlatOutcome, FlatRecord, FlatTile, FlatVerdict, FlatWrote,
-    };
+    use super::{FlatLedger, FlatLoad, FlatRecord, FlatTile, FlatVerdict};
 
     extern "C" {
-        pub fn tailbow_fresh_load() -> FlatLoad;
+        pub fn tailbow_fresh_load(load: *mut FlatLoad);
         pub fn tailbow_write(
-            image: *mut u32,
-            image_words: usize,
-            load: FlatLoad,
-            words: *const u32,
-            count: usize,
-        ) -> FlatWrote;
-        pub fn tailbow_write_lent(
             image: *mut u32,
             image_words: usize,
             load: *mut FlatLoad,
@@ -171,17 +133,12 @@ mod linked {
             bytes: *const u8,
             count: usize,
         ) -> u32;
-        pub fn tailbow_fresh_ledger(image: *const u32, image_words: usize) -> FlatOutcome;
-        pub fn tailbow_judge(
+        pub fn tailbow_fresh_ledger(
             image: *const u32,
             image_words: usize,
-            ledger: FlatLedger,
-            port: usize,
-            time: u64,
-            frame: *const u8,
-            bytes: usize,
-        ) -> FlatJudged;
-        pub fn tailbow_judge_lent(
+            ledger: *mut FlatLedger,
+        ) -> u32;
+        pub fn tailbow_judge(
             image: *const u32,
             image_words: usize,
             ledger: *mut FlatLedger,
@@ -193,42 +150,31 @@ mod linked {
         pub fn tailbow_release(
             image: *const u32,
             image_words: usize,
-            ledger: FlatLedger,
-            partition: usize,
-        ) -> FlatOutcome;
-        pub fn tailbow_release_lent(
-            image: *const u32,
-            image_words: usize,
             ledger: *mut FlatLedger,
             partition: usize,
         ) -> u32;
         pub fn tailbow_tile(
             image: *const u32,
             image_words: usize,
-            ledger: FlatLedger,
+            ledger: *const FlatLedger,
             port: usize,
         ) -> FlatTile;
         pub fn tailbow_record_at(list: *const u8, bytes: usize, at: usize) -> FlatRecord;
     }
 }
 
-// Each call below passes a slice's own pointer and length, and a ledger that is borrowed alone: all that the entries ask of a caller.
+// Each call below passes a slice's own pointer and length, and a load state or a ledger that nobody else may write meanwhile: all that the
+// entries ask of a caller.
 
-/// The load state before a first write.
-pub fn fresh_load() -> FlatLoad {
-    unsafe { linked::tailbow_fresh_load() }
+/// The load state before a first write, whatever stood there.
+pub fn fresh_load(load: &mut FlatLoad) {
+    unsafe { linked::tailbow_fresh_load(load) }
 }
 
-/// Words for a load.
-pub fn write(image: &mut [u32], load: FlatLoad, words: &[u32]) -> FlatWrote {
+/// Words for a load: 0 for loaded, [`MORE`], or a refusal's number.
+pub fn write(image: &mut [u32], load: &mut FlatLoad, words: &[u32]) -> u32 {
     let (lent, length) = (image.as_mut_ptr(), image.len());
     unsafe { linked::tailbow_write(lent, length, load, words.as_ptr(), words.len()) }
-}
-
-/// The same on a load state that is lent.
-pub fn write_lent(image: &mut [u32], load: &mut FlatLoad, words: &[u32]) -> u32 {
-    let (lent, length) = (image.as_mut_ptr(), image.len());
-    unsafe { linked::tailbow_write_lent(lent, length, load, words.as_ptr(), words.len()) }
 }
 
 /// A whole stream of words.
@@ -243,25 +189,13 @@ pub fn load_bytes(image: &mut [u32], bytes: &[u8]) -> u32 {
     unsafe { linked::tailbow_load_bytes(lent, length, bytes.as_ptr(), bytes.len()) }
 }
 
-/// A fresh ledger of an image.
-pub fn fresh_ledger(image: &[u32]) -> FlatOutcome {
-    unsafe { linked::tailbow_fresh_ledger(image.as_ptr(), image.len()) }
+/// A fresh ledger of an image, whatever stood there: the refusal's number, 0 for none. Beside a refusal the ledger is one that 39 refuses.
+pub fn fresh_ledger(image: &[u32], ledger: &mut FlatLedger) -> u32 {
+    unsafe { linked::tailbow_fresh_ledger(image.as_ptr(), image.len(), ledger) }
 }
 
-/// A frame that came in at a port at a time in µs, with the ledger by value.
+/// A frame that came in at a port at a time in µs.
 pub fn judge(
-    image: &[u32],
-    ledger: FlatLedger,
-    port: usize,
-    time: u64,
-    frame: &[u8],
-) -> FlatJudged {
-    let (lent, length) = (image.as_ptr(), image.len());
-    unsafe { linked::tailbow_judge(lent, length, ledger, port, time, frame.as_ptr(), frame.len()) }
-}
-
-/// The same on a ledger that is lent.
-pub fn judge_lent(
     image: &[u32],
     ledger: &mut FlatLedger,
     port: usize,
@@ -269,23 +203,16 @@ pub fn judge_lent(
     frame: &[u8],
 ) -> FlatVerdict {
     let (lent, length) = (image.as_ptr(), image.len());
-    unsafe {
-        linked::tailbow_judge_lent(lent, length, ledger, port, time, frame.as_ptr(), frame.len())
-    }
+    unsafe { linked::tailbow_judge(lent, length, ledger, port, time, frame.as_ptr(), frame.len()) }
 }
 
-/// One unit of a partition comes back, with the ledger by value.
-pub fn release(image: &[u32], ledger: FlatLedger, partition: usize) -> FlatOutcome {
+/// One unit of a partition comes back: the refusal's number, 0 for none.
+pub fn release(image: &[u32], ledger: &mut FlatLedger, partition: usize) -> u32 {
     unsafe { linked::tailbow_release(image.as_ptr(), image.len(), ledger, partition) }
 }
 
-/// The same on a ledger that is lent: the refusal's number, 0 for none.
-pub fn release_lent(image: &[u32], ledger: &mut FlatLedger, partition: usize) -> u32 {
-    unsafe { linked::tailbow_release_lent(image.as_ptr(), image.len(), ledger, partition) }
-}
-
 /// What the screen shows of a port.
-pub fn tile(image: &[u32], ledger: FlatLedger, port: usize) -> FlatTile {
+pub fn tile(image: &[u32], ledger: &FlatLedger, port: usize) -> FlatTile {
     unsafe { linked::tailbow_tile(image.as_ptr(), image.len(), ledger, port) }
 }
 

@@ -4,9 +4,7 @@ use std::collections::BTreeMap;
 use std::mem::{offset_of, size_of};
 use std::path::Path;
 
-use tailbow::raw::{
-    FlatJudged, FlatLedger, FlatLoad, FlatOutcome, FlatRecord, FlatTile, FlatVerdict, FlatWrote,
-};
+use tailbow::raw::{FlatLedger, FlatLoad, FlatRecord, FlatTile, FlatVerdict};
 use tailbow::{DropCause, Refusal};
 
 fn text(name: &str) -> String {
@@ -101,7 +99,7 @@ fn both_declare_the_same_functions() {
     let declared =
         &ours[ours.find("extern \"C\"").unwrap()..ours.find("// Each call below").unwrap()];
     let theirs = functions(&header());
-    assert_eq!(theirs.len(), 12, "{theirs:?}");
+    assert_eq!(theirs.len(), 9, "{theirs:?}");
     assert_eq!(theirs, functions(declared));
 }
 
@@ -141,7 +139,6 @@ fn structs_have_the_same_layout() {
         stream,
         block
     );
-    layout!(ours, "tailbow_wrote", FlatWrote, answer, load);
     layout!(
         ours,
         "tailbow_ledger",
@@ -155,7 +152,6 @@ fn structs_have_the_same_layout() {
         dropped,
         last
     );
-    layout!(ours, "tailbow_outcome", FlatOutcome, number, ledger);
     layout!(
         ours,
         "tailbow_verdict",
@@ -168,7 +164,6 @@ fn structs_have_the_same_layout() {
         tags,
         queues
     );
-    layout!(ours, "tailbow_judged", FlatJudged, verdict, ledger);
     layout!(ours, "tailbow_port_tile", FlatTile, kind, number, share, octets);
     layout!(
         ours,

@@ -21,7 +21,7 @@ const FRAMES: usize = 12;
 /// A loaded image near K, and a ledger that some frames have gone into.
 fn used(rng: &mut Rng, tally: &mut Tally, name: &str) -> (Vec<u32>, Ledger) {
     let image = of_lists(&random_config(rng, Profile::Near));
-    let mut ledger = fresh(tally, name, &image).expect("lists of this profile load");
+    let mut ledger = fresh(rng, tally, name, &image).expect("lists of this profile load");
     for _ in 0..FRAMES {
         let (port, time) = (rng.place(5), later(rng, ledger.last_time));
         ledger = frame(tally, name, &image, ledger, (port, time), &random_frame(rng));
@@ -46,7 +46,7 @@ pub fn images(rng: &mut Rng, tally: &mut Tally) {
         let name = format!("image, word {}, bit {} turned over", bit / 32, bit % 32);
         let mut edited = image.clone();
         edited[bit / 32] ^= 1 << (bit % 32);
-        fresh(tally, &name, &edited);
+        fresh(rng, tally, &name, &edited);
         ask(rng, tally, &name, &edited, ledger);
     }
 }

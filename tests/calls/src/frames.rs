@@ -1,5 +1,7 @@
 //! Ledgers, frames, releases and tiles: each call made twice, by the proved entry and by the second program.
 
+use std::hint::black_box;
+
 use cases::edit::{edited_image, edited_ledger};
 use cases::generate::{later, random_frame};
 use cases::rng::Rng;
@@ -8,15 +10,16 @@ use reference::ledger::{self, Ledger, PortCounts, LAST_TIME};
 use reference::tile::{self, TileAnswer};
 
 use crate::tally::{same, Answer, Tally};
-use tailbow::raw::{self as entries, FlatLedger, FlatOutcome, FlatTile, FlatVerdict};
+use tailbow::raw::{self as entries, FlatLedger, FlatTile, FlatVerdict};
 
 /// Calls in a sequence.
 const STEPS: usize = 32;
 
 /// A sequence of frames and releases on this image, and tiles; once in a while on an edited image or an edited ledger.
 pub fn sequence(rng: &mut Rng, tally: &mut Tally, name: &str, image: &[u32]) {
-    fresh(tally, name, &edited_image(rng, image));
-    let Some(mut ledger) = fresh(tally, name, image) else {
+    let other = edited_image(rng, image);
+    fresh(rng, tally, name, &other);
+    let Some(mut ledger) = fresh(rng, tally, name, image) else {
         return;
     };
     for _ in 0..STEPS {
@@ -100,18 +103,6 @@ fn narrow(number: usize) -> u32 {
     u32::try_from(number).unwrap_or(u32::MAX)
 }
 
-pub fn fresh(tally: &mut Tally, name: &str, image: &[u32]) -> Option<Ledger> {
-    let ours = entries::fresh_ledger(image);
-    let theirs = ledger::fresh_ledger(image);
-    let (number, expected) = match theirs {
-        Ok(ledger) => (0, ledger),
-        Err(number) => (number, ledger::no_ledger()),
-    };
-    let expected = FlatOutcome { number, ledger: flat(&expected) };
-    tally.call("fresh_ledger", Answer::of_number(ours.number, "done"), same(name, ours, expected));
-    theirs.ok()
-}
-
 /// A ledger that is lent, between two words that are nobody's.
 #[repr(C)]
 #[derive(Clone, Copy, PartialEq, Eq, Debug)]
@@ -122,12 +113,49 @@ struct Lent {
 }
 
 impl Lent {
+    fn around(ledger: FlatLedger) -> Lent {
+        Lent { before: 0x5A5A_0001, ledger, after: 0x5A5A_0002 }
+    }
+
     fn of(ledger: &Ledger) -> Lent {
-        Lent { before: 0x5A5A_0001, ledger: flat(ledger), after: 0x5A5A_0002 }
+        Lent::around(flat(ledger))
+    }
+
+    /// Any numbers.
+    fn any(rng: &mut Rng) -> Lent {
+        Lent::around(FlatLedger {
+            units: numbers(rng),
+            credit: numbers(rng),
+            since: numbers(rng),
+            frames: numbers(rng),
+            drops: numbers(rng),
+            octets: numbers(rng),
+            dropped: numbers(rng),
+            last: rng.next(),
+        })
     }
 }
 
-/// A frame by both entries: the ledger by value, and lent.
+fn numbers<const N: usize>(rng: &mut Rng) -> [u64; N] {
+    std::array::from_fn(|_| rng.next())
+}
+
+/// A fresh ledger in a place where any numbers stood: each is filled, also beside a refusal.
+pub fn fresh(rng: &mut Rng, tally: &mut Tally, name: &str, image: &[u32]) -> Option<Ledger> {
+    let theirs = ledger::fresh_ledger(image);
+    let (number, expected) = match theirs {
+        Ok(ledger) => (0, ledger),
+        Err(number) => (number, ledger::no_ledger()),
+    };
+    let mut lent = Lent::any(rng);
+    let told = entries::fresh_ledger(image, &mut lent.ledger);
+    let compared = same("number", told, number)
+        .and(same("lent ledger", lent, Lent::of(&expected)))
+        .map_err(|failure| format!("{name}: {failure}"));
+    tally.call("fresh_ledger", Answer::of_number(told, "done"), compared);
+    theirs.ok()
+}
+
 pub fn frame(
     tally: &mut Tally,
     name: &str,
@@ -136,32 +164,21 @@ pub fn frame(
     (port, time): (usize, u64),
     frame: &[u8],
 ) -> Ledger {
-    let (answer, after) = judge::judge(image, ledger, narrow(port), time, frame);
-    let expected = flat_verdict(answer);
-    let said = |failure| format!("{name}: port {port}, time {time}, {frame:02X?}: {failure}");
-    let ours = entries::judge(image, flat(&ledger), port, time, frame);
-    let compared = same("verdict", ours.verdict, expected)
-        .and(same("ledger", ours.ledger, flat(&after)))
-        .map_err(said);
-    tally.call("judge", verdict_answer(&ours.verdict), compared);
+    let (expected, after) = judge::judge(image, ledger, narrow(port), time, frame);
     let mut lent = Lent::of(&ledger);
-    let verdict = entries::judge_lent(image, &mut lent.ledger, port, time, frame);
-    let compared = same("verdict", verdict, expected)
+    let verdict = entries::judge(image, &mut lent.ledger, port, time, frame);
+    let compared = same("verdict", verdict, flat_verdict(expected))
         .and(same("lent ledger", lent, Lent::of(&after)))
-        .map_err(said);
-    tally.call("judge_lent", verdict_answer(&verdict), compared);
-    after
-}
-
-fn verdict_answer(verdict: &FlatVerdict) -> Answer {
-    match verdict.kind {
+        .map_err(|failure| format!("{name}: port {port}, time {time}, {frame:02X?}: {failure}"));
+    let answer = match verdict.kind {
         0 => Answer::Refused(verdict.number),
         1 => Answer::Drop(verdict.number),
         _ => Answer::Told("sent"),
-    }
+    };
+    tally.call("judge", answer, compared);
+    after
 }
 
-/// A release by both entries.
 pub fn release(
     tally: &mut Tally,
     name: &str,
@@ -174,21 +191,18 @@ pub fn release(
         ReleaseAnswer::Refused(number) => number,
         ReleaseAnswer::Released => 0,
     };
-    let said = |failure| format!("{name}: partition {partition}: {failure}");
-    let ours = entries::release(image, flat(&ledger), partition);
-    let expected = FlatOutcome { number, ledger: flat(&after) };
-    let compared = same("outcome", ours, expected).map_err(said);
-    tally.call("release", Answer::of_number(ours.number, "done"), compared);
     let mut lent = Lent::of(&ledger);
-    let told = entries::release_lent(image, &mut lent.ledger, partition);
-    let compared =
-        same("number", told, number).and(same("lent ledger", lent, Lent::of(&after))).map_err(said);
-    tally.call("release_lent", Answer::of_number(told, "done"), compared);
+    let told = entries::release(image, &mut lent.ledger, partition);
+    let compared = same("number", told, number)
+        .and(same("lent ledger", lent, Lent::of(&after)))
+        .map_err(|failure| format!("{name}: partition {partition}: {failure}"));
+    tally.call("release", Answer::of_number(told, "done"), compared);
     after
 }
 
 pub fn show(tally: &mut Tally, name: &str, image: &[u32], ledger: Ledger, port: usize) {
-    let ours = entries::tile(image, flat(&ledger), port);
+    let mut lent = Lent::of(&ledger);
+    let ours = entries::tile(image, &black_box(&mut lent).ledger, port);
     let shown = |kind, number, share, octets| FlatTile { kind, number, share, octets };
     let expected = match tile::tile(image, &ledger, narrow(port)) {
         TileAnswer::Refused(number) => shown(0, number, 0, 0),
@@ -196,7 +210,9 @@ pub fn show(tally: &mut Tally, name: &str, image: &[u32], ledger: Ledger, port: 
         TileAnswer::NoFrames => shown(2, 0, 0, 0),
         TileAnswer::Shares { frames, octets } => shown(3, 0, frames.to_bits(), octets.to_bits()),
     };
-    let compared = same("tile", ours, expected);
+    // It was lent to be read: without the box the compiler may take it as unchanged and not look.
+    let after = *black_box(&mut lent);
+    let compared = same("tile", ours, expected).and(same("lent ledger", after, Lent::of(&ledger)));
     let answer = match ours.kind {
         0 => Answer::Refused(ours.number),
         1 => Answer::Told("not-loaded"),

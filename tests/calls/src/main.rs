@@ -22,16 +22,17 @@ use cases::rng::Rng;
 use cases::{boundaries, check, fixed};
 use reference::image::{of_lists, IMAGE_WORDS};
 use reference::stream::{bytes_of, words_of};
-use tailbow::raw::{self as entries, FlatLoad, MORE};
+use tailbow::raw::MORE;
 
 use frames::sequence;
-use pair::{load_bytes, load_words, Pair};
+use pair::{fresh_load, load_bytes, load_words, Pair};
 use streams::{dirty, every_way, with_edits};
-use tally::{same, Answer, Tally};
+use tally::{same, Tally};
 use walks::walk;
 
 const SEED: u64 = 1105;
 const ROUNDS: u64 = 3000;
+const FRESH_LOADS: u64 = 1000;
 
 /// Rounds between two in which every table is full, and between two sets of boundary streams.
 const FULL_EVERY: u64 = 500;
@@ -104,7 +105,9 @@ fn main() -> ExitCode {
 /// What needs no seed and what does, once; then the rounds.
 fn night(seed: u64, rounds: u64, tally: &mut Tally) {
     let mut rng = Rng::new(seed);
-    fresh(tally);
+    for _ in 0..FRESH_LOADS {
+        fresh_load(&mut rng, tally);
+    }
     vectors(&mut rng, tally);
     named(&mut rng, tally);
     cut(&mut rng, tally);
@@ -114,23 +117,6 @@ fn night(seed: u64, rounds: u64, tally: &mut Tally) {
         judged(&mut rng, tally, round);
         lists::generated(&mut rng, tally, &format!("list {round}"));
     }
-}
-
-/// A fresh load is all zero.
-fn fresh(tally: &mut Tally) {
-    let zero = FlatLoad {
-        phase: 0,
-        told: 0,
-        table: 0,
-        placed: 0,
-        due: 0,
-        first: 0,
-        second: 0,
-        stream: 0,
-        block: 0,
-    };
-    let compared = same("a fresh load", entries::fresh_load(), zero);
-    tally.call("fresh_load", Answer::Told("done"), compared);
 }
 
 fn vector(name: &str) -> Vec<u8> {

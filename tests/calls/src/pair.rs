@@ -1,5 +1,6 @@
 //! Each call made twice, on equal buffers: by the proved entry and by the second program.
 
+use cases::rng::Rng;
 use reference::image::IMAGE_WORDS;
 use reference::load::{self, LoadAnswer, LoadState};
 
@@ -43,12 +44,40 @@ fn whole(
     (answer, ours)
 }
 
-/// A lent load state between two numbers that nobody may write.
-#[repr(C)]
-struct Guarded {
-    before: u64,
-    load: FlatLoad,
-    behind: u64,
+/// A load state as it is lent: its bytes as six numbers, between two that are nobody's.
+#[derive(Clone, Copy, PartialEq, Eq, Debug)]
+struct Lent([u64; 8]);
+
+impl Lent {
+    /// The upper half of the second number belongs to no field.
+    fn of(load: &FlatLoad) -> Lent {
+        const NOBODYS: u32 = 0x5A5A_A5A5;
+        let two = |low: u32, high: u32| u64::from(low) | u64::from(high) << 32;
+        Lent([
+            two(NOBODYS, NOBODYS),
+            two(load.phase, load.told),
+            two(load.table, NOBODYS),
+            load.placed,
+            load.due,
+            two(load.first, load.second),
+            two(load.stream, load.block),
+            two(NOBODYS, NOBODYS),
+        ])
+    }
+
+    fn load(&mut self) -> &mut FlatLoad {
+        // SAFETY: six such numbers are as long as a load state and aligned for it, and a load state may hold any numbers.
+        unsafe { &mut *self.0[1..7].as_mut_ptr().cast() }
+    }
+}
+
+/// A fresh load in a place where any numbers stood: each of its bytes is 0, and what is around it as found.
+pub fn fresh_load(rng: &mut Rng, tally: &mut Tally) {
+    let mut lent = Lent(std::array::from_fn(|_| rng.next()));
+    let [before, .., behind] = lent.0;
+    entries::fresh_load(lent.load());
+    let compared = same("a fresh load", lent, Lent([before, 0, 0, 0, 0, 0, 0, behind]));
+    tally.call("fresh_load", Answer::Told("done"), compared);
 }
 
 /// A load under way in both.
@@ -62,10 +91,12 @@ pub struct Pair {
 
 impl Pair {
     pub fn fresh(buffer: &[u32]) -> Pair {
+        let mut lent = Lent([u64::MAX; 8]);
+        entries::fresh_load(lent.load());
         Pair {
             ours: buffer.to_vec(),
             theirs: buffer.to_vec(),
-            flat: entries::fresh_load(),
+            flat: *lent.load(),
             state: LoadState::fresh(),
         }
     }
@@ -87,40 +118,19 @@ impl Pair {
     /// One write in both; gives the answer.
     pub fn write(&mut self, tally: &mut Tally, name: &str, words: &[u32]) -> u32 {
         let (flat, buffer) = (self.flat, self.ours.clone());
-        let wrote = entries::write(&mut self.ours, flat, words);
-        self.flat = wrote.load;
-        let mut compared = self
-            .lent(flat, &buffer, wrote.answer, words)
-            .and_then(|()| self.compare(flat, &buffer, wrote.answer, words));
-        if let Err(failure) = &mut compared {
-            *failure = format!("{name}: a write of {words:08X?} at {flat:?}: {failure}");
-        }
-        let answer = if flat.phase == TOLD && wrote.answer == flat.told {
+        let mut lent = Lent::of(&flat);
+        let told = entries::write(&mut self.ours, lent.load(), words);
+        self.flat = *lent.load();
+        let compared = same("what is no part of the state", lent, Lent::of(&self.flat))
+            .and_then(|()| self.compare(flat, &buffer, told, words))
+            .map_err(|failure| format!("{name}: a write of {words:08X?} at {flat:?}: {failure}"));
+        let answer = if flat.phase == TOLD && told == flat.told {
             Answer::Told("repeated")
         } else {
-            Answer::of_number(wrote.answer, "loaded")
+            Answer::of_number(told, "loaded")
         };
         tally.call("write", answer, compared);
-        wrote.answer
-    }
-
-    /// The same write to a lent state: the answer, the state and the buffer of the one by value, and nothing around the state written.
-    fn lent(
-        &self,
-        flat: FlatLoad,
-        buffer: &[u32],
-        answer: u32,
-        words: &[u32],
-    ) -> Result<(), String> {
-        const GUARD: u64 = 0x5A5A_A5A5_5A5A_A5A5;
-        let mut guarded = Guarded { before: GUARD, load: flat, behind: GUARD };
-        let mut lent = buffer.to_vec();
-        let told = entries::write_lent(&mut lent, &mut guarded.load, words);
-        same("answer to a lent state", told, answer)?;
-        same("lent numbers", guarded.load, self.flat)?;
-        same("what stands before a lent state", guarded.before, GUARD)?;
-        same("what stands behind a lent state", guarded.behind, GUARD)?;
-        same_words("buffer of a lent state", &lent, &self.ours)
+        told
     }
 
     fn compare(
@@ -153,11 +163,7 @@ impl Pair {
             return same_words("buffer as found", &self.ours, buffer);
         }
         if self.flat.phase == TOLD {
-            return same(
-                "numbers after an answer",
-                self.flat,
-                told_with(entries::fresh_load(), answer),
-            );
+            return same("numbers after an answer", self.flat, told_with(answer));
         }
         Ok(())
     }

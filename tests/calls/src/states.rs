@@ -83,9 +83,9 @@ pub fn meaning(state: &LoadState) -> LoadState {
     }
 }
 
-/// The state after an answer: the fresh one but for the answer.
-pub fn told_with(fresh: FlatLoad, number: u32) -> FlatLoad {
-    FlatLoad { phase: TOLD, told: number, ..fresh }
+/// The state after an answer: all 0 but for the answer.
+pub fn told_with(number: u32) -> FlatLoad {
+    FlatLoad { phase: TOLD, told: number, ..FlatLoad::default() }
 }
 
 /// One random edit that leaves a state.

@@ -58,7 +58,7 @@ const RELEASE: &[u32] = &[30, 31, 36, 37, 39];
 const LIST: &[u32] = &[50, 51, 52, 53, 54];
 
 /// Every entry, with every answer that document 01 lets it give.
-const ENTRIES: [Due; 11] = [
+const ENTRIES: [Due; 9] = [
     Due { entry: "fresh_load", refusals: &[], drops: &[], told: &["done"] },
     // An answer that a write repeats is not counted as given again.
     Due { entry: "write", refusals: WRITE, drops: &[], told: &["loaded", "more", "repeated"] },
@@ -66,9 +66,7 @@ const ENTRIES: [Due; 11] = [
     Due { entry: "load_bytes", refusals: BYTES, drops: &[], told: &["loaded"] },
     Due { entry: "fresh_ledger", refusals: &[30, 31], drops: &[], told: &["done"] },
     Due { entry: "judge", refusals: FRAME, drops: DROPS, told: &["sent"] },
-    Due { entry: "judge_lent", refusals: FRAME, drops: DROPS, told: &["sent"] },
     Due { entry: "release", refusals: RELEASE, drops: &[], told: &["done"] },
-    Due { entry: "release_lent", refusals: RELEASE, drops: &[], told: &["done"] },
     Due {
         entry: "tile",
         refusals: &[31, 33, 39],
