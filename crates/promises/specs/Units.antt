@@ -109,7 +109,7 @@ frame-units : (buffer g : List ℕ) (port time : ℕ) (bytes : List ℕ) (j : �
     → cell (judgeOf buffer g port time bytes .row) units j + takes j (judgeOf buffer g port time bytes .verdict) (planFor (imageIn buffer) port bytes) ≡ cell g units j
 frame-units buffer g port time bytes j all h =
     by-cases buffer g port time bytes (λ (r : Judged). cell (r .row) units j + takes j (r .verdict) (planFor (imageIn buffer) port bytes) ≡ cell g units j)
-    (λ z. none (planFor (imageIn buffer) port bytes))
+    (λ z. none _ (planFor (imageIn buffer) port bytes))
     (λ a n e. rw (e, units-kept g port time l true (a .inside) j h) (add-zero (cell g units j)))
     (λ a w e f z. rw e (dropped a w f z))
     (λ a w e f z. rw e (sent a w f z))
@@ -117,9 +117,9 @@ frame-units buffer g port time bytes j all h =
     l : ℕ
     l = octetsOf bytes
 
-    none : (q : Planned) → cell g units j + takes j (Refused _) q ≡ cell g units j
-    none (Dropped n) = add-zero (cell g units j)
-    none (Goes w) = add-zero (cell g units j)
+    none : (n : ℕ) (q : Planned) → cell g units j + takes j (Refused n) q ≡ cell g units j
+    none n (Dropped m) = add-zero (cell g units j)
+    none n (Goes w) = add-zero (cell g units j)
 
     balance : (w : Course) → spentAt g w time l .units + cond (eqb (spentAt g w time l .drop) 0) 1 0 ≡ cell g units (w .partition)
     balance w = spent-balance (meterOf w (heldAt g w)) time (cell g units (w .partition)) l (w .sending .ports)

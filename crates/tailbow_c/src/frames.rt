@@ -152,11 +152,7 @@ pub extern "C" fn tailbow_judge(
 
 // One unit of a partition comes back: the refusal's number, 0 for none.
 #[no_mangle]
-pub extern "C" fn tailbow_release(
-    image: &[u32],
-    ledger: &mut [u64; CELLS],
-    partition: usize,
-) -> u32
+pub extern "C" fn tailbow_release(image: &[u32], ledger: &mut [u64; CELLS], partition: usize) -> u32
     ensures { λ r. ⌜ ReleasesFlat (now (image .entry)) (now (ledger .entry)) partition r (now (ledger .exit)) ⌝ }
 {
     outcome_number(ledger::units::release(image, ledger, partition))
