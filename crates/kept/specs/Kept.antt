@@ -28,7 +28,7 @@ use Rattle.judge.specs.Judge.{countsAt, noted, judgeOf}
 use Rattle.judge.specs.Laws.{Admitted}
 use Rattle.judge.specs.Cases.{spentAt, rowAfter, by-cases}
 use Rattle.kept.specs.Lists.{same-or-not, same-part}
-use Rattle.kept.specs.Fresh.{fresh-length, fresh-units, fresh-credit, fresh-rest}
+use Rattle.kept.specs.Fresh.{fresh-length, fresh-units, fresh-credit, fresh-zero}
 use Rattle.kept.specs.Cells.{spent-units, spent-credit, one-more, counted-as}
 
 -- the row has as many cells as the code's array
@@ -68,13 +68,13 @@ fresh-kept image =
             spaced = λ j h. subst (λ (x : ℕ). x ≤ partSpc image j) (sym (fresh-units image j h)) (le-refl (partSpc image j));
             metered = λ k h. subst (λ (x : ℕ). x ≤ fullOf image k) (sym (fresh-credit image k h)) (le-refl (fullOf image k));
             tiled =
-                λ p h. counted-as 0 0 0 0 _ _ _ _ (fresh-rest image (start frames) p (omega arith) (omega arith))
-                (fresh-rest image (start drops) p (omega arith) (omega arith))
-                (fresh-rest image (start octets) p (omega arith) (omega arith))
-                (fresh-rest image (start dropped) p (omega arith) (omega arith))
+                λ p h. counted-as 0 0 0 0 _ _ _ _ (fresh-zero image (start frames) p (omega arith) (omega arith))
+                (fresh-zero image (start drops) p (omega arith) (omega arith))
+                (fresh-zero image (start octets) p (omega arith) (omega arith))
+                (fresh-zero image (start dropped) p (omega arith) (omega arith))
                 no-counts;
-            timed = λ k h. subst (λ (x : ℕ). x ≤ cell (freshOf image) last 0) (sym (fresh-rest image (start since) k (omega arith) (omega arith))) zero-le;
-            early = subst (λ (x : ℕ). x ≤ latest) (sym (fresh-rest image (start last) 0 (lit≤ tt) (lit< tt))) zero-le;
+            timed = λ k h. subst (λ (x : ℕ). x ≤ cell (freshOf image) last 0) (sym (fresh-zero image (start since) k (omega arith) (omega arith))) zero-le;
+            early = subst (λ (x : ℕ). x ≤ latest) (sym (fresh-zero image (start last) 0 (lit≤ tt) (lit< tt))) zero-le;
           };
     }
 

@@ -3,7 +3,8 @@ use crate::Answer;
 use crate::CELLS;
 use crate::CREDIT;
 use crate::LAST;
-use crate::SINCE;
+use crate::PARTITIONS;
+use crate::UNITS;
 use crate::range::LATEST;
 use crate::range::full;
 use crate::range::unloaded;
@@ -11,32 +12,24 @@ ghost use mathlib.Core.Path.{_≡_};
 ghost use Prim.Native.Nat.{_<_};
 ghost use Rattle.image.specs.Layout.{imageIn};
 ghost use Rattle.image.specs.Sound.{Sound};
-ghost use Rattle.ledger.specs.Row.{cellCount};
-ghost use Rattle.ledger.specs.Fresh.{table, freshCell, freshOf, noLedger, Freshened};
+ghost use Rattle.ledger.specs.Fresh.{freshOf, noLedger, Freshened};
 
-// Every partition at its PART_SPC, every meter full, nothing anywhere else.
-fn fresh_cell(image: &[u32], n: usize) -> u64
-    requires { ⌜ Sound (now image) ⌝ }
-    ensures { λ r. ⌜ r ≡ freshCell (imageIn (now (image .entry))) n ⌝ }
-{
-    if n < CREDIT {
-        return image::parameters::part_spc(image, n);
-    }
-    if n < SINCE {
-        return full(image, n - CREDIT);
-    }
-    0
-}
-
+// Every partition at its PART_SPC, every meter that has an entry full, nothing anywhere else.
 fn fresh_row(image: &[u32]) -> [u64; CELLS]
     requires { ⌜ Sound (now image) ⌝ }
     ensures { λ r. ⌜ r ≡ freshOf (imageIn (now (image .entry))) ⌝ }
 {
     let mut row = [0u64; CELLS];
-    let mut n: usize = 0;
-    while n < CELLS {
-        row[n] = fresh_cell(image, n);
-        n += 1;
+    let mut j: usize = 0;
+    while j < PARTITIONS {
+        row[UNITS + j] = image::parameters::part_spc(image, j);
+        j += 1;
+    }
+    let n = image::counts::count(image, 1);
+    let mut k: usize = 0;
+    while k < n {
+        row[CREDIT + k] = full(image, k);
+        k += 1;
     }
     row
 }

@@ -29,7 +29,7 @@ use Rattle.tile.specs.declared.shares.Tile.the-variants.{NoFrames}
 use Rattle.tile.specs.Tiles.{tileOf}
 use Rattle.tile.specs.Shares.{no-share}
 use Rattle.kept.specs.Lists.{same-or-not}
-use Rattle.kept.specs.Fresh.{fresh-rest}
+use Rattle.kept.specs.Fresh.{fresh-zero}
 use Rattle.kept.specs.Kept.{Kept, fresh-kept}
 use Rattle.kept.specs.History.{Event, frame, release, step, after, step-kept, never-39}
 
@@ -120,10 +120,10 @@ pub tiles-start-from-nothing : (image : List ℕ) (p : ℕ) → p < many frames
 tiles-start-from-nothing image p h =
     λ i.
     record {
-      frames = fresh-rest image (start frames) p (omega arith) (omega arith) i;
-      drops = fresh-rest image (start drops) p (omega arith) (omega arith) i;
-      octets = fresh-rest image (start octets) p (omega arith) (omega arith) i;
-      dropped = fresh-rest image (start dropped) p (omega arith) (omega arith) i;
+      frames = fresh-zero image (start frames) p (omega arith) (omega arith) i;
+      drops = fresh-zero image (start drops) p (omega arith) (omega arith) i;
+      octets = fresh-zero image (start octets) p (omega arith) (omega arith) i;
+      dropped = fresh-zero image (start dropped) p (omega arith) (omega arith) i;
     }
 
 -- "A port with no frames shows no share"
