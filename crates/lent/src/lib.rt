@@ -25,24 +25,16 @@ pub struct Brought {
 
 // The step by value.
 pub fn step(image: &[u32], ledger: Ledger, event: Event, frame: &[u8]) -> Brought
-    ensures { λ r. ⌜ Brings (now (image .entry)) (ledger .cells) event (now (frame .entry)) (r .told) (r .ledger .cells) ⌝ }
+    ensures { λ k. ⌜ Brings (now (image .entry)) (ledger .cells) event (now (frame .entry)) (k .told) (k .ledger .cells) ⌝ }
 {
-    let mut cells = ledger.cells;
-    match event {
-        Event::Frame(port, time) => {
-            let verdict = judge(image, &mut cells, port, time, frame);
-            Brought {
-                told: Told::Judged(verdict),
-                ledger: Ledger { cells },
-            }
-        }
-        Event::Release(partition) => {
-            let answer = release(image, &mut cells, partition);
-            Brought {
-                told: Told::Released(answer),
-                ledger: Ledger { cells },
-            }
-        }
+    let mut after = ledger;
+    let told = match event {
+        Event::Frame(port, time) => Told::Judged(judge(image, &mut after.cells, port, time, frame)),
+        Event::Release(partition) => Told::Released(release(image, &mut after.cells, partition)),
+    };
+    Brought {
+        told,
+        ledger: after,
     }
 }
 

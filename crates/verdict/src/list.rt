@@ -1,8 +1,11 @@
 // The list of records: read whole, walked with one ledger, then the tiles.
 use crate::file;
 use crate::print;
-use ledger::Answer;
+use ledger::CELLS;
+use ledger::DROPS;
+use ledger::FRAMES;
 use ledger::Ledger;
+use lent::Event;
 use records::Record;
 use records::Refusal;
 
@@ -10,51 +13,32 @@ use records::Refusal;
 const MOST: usize = 16385;
 
 // A port's tile with its counts.
-fn tile_of(image: &[u32], ledger: Ledger, port: usize) {
+fn tile_of(image: &[u32], cells: &[u64; CELLS], port: usize) {
     if 5 <= port {
         return;
     }
-    let frames = ledger.frames;
-    let drops = ledger.drops;
     print::tile_line(
         port as u64,
-        frames[port],
-        drops[port],
-        tile::tile(image, ledger, port),
+        cells[FRAMES + port],
+        cells[DROPS + port],
+        tile::tile(image, cells, port),
     );
 }
 
-fn tiles(image: &[u32], ledger: Ledger) {
-    tile_of(image, ledger, 0);
-    tile_of(image, ledger, 1);
-    tile_of(image, ledger, 2);
-    tile_of(image, ledger, 3);
-    tile_of(image, ledger, 4);
+fn tiles(image: &[u32], cells: &[u64; CELLS]) {
+    tile_of(image, cells, 0);
+    tile_of(image, cells, 1);
+    tile_of(image, cells, 2);
+    tile_of(image, cells, 3);
+    tile_of(image, cells, 4);
 }
 
-fn release(image: &[u32], ledger: Ledger, record: u64, partition: usize) -> Ledger {
-    let done = lent::release_once(image, ledger, partition);
-    let answer = done.answer;
-    match answer {
-        Answer::Refused(n) => print::refused(n as u64),
-        Answer::Done => print::released(record),
-    }
-    let next = done.ledger;
-    next
-}
-
-fn frame(
-    image: &[u32],
-    ledger: Ledger,
-    record: u64,
-    port: usize,
-    time: u64,
-    bytes: &[u8],
-) -> Ledger {
-    let judged = lent::judge_once(image, ledger, port, time, bytes);
-    let verdict = judged.verdict;
-    print::verdict(record, verdict);
-    let next = judged.ledger;
+// One record: what it tells is printed, and the ledger brought up to date.
+fn bring(image: &[u32], ledger: Ledger, record: u64, event: Event, bytes: &[u8]) -> Ledger {
+    let brought = lent::bring_once(image, ledger, event, bytes);
+    let told = brought.told;
+    print::told(record, told);
+    let next = brought.ledger;
     next
 }
 
@@ -81,12 +65,18 @@ fn records_of(image: &[u32], list: &[u8], fresh: Ledger, broken: bool) -> Ledger
                 count: _,
                 next,
             } => {
-                ledger = frame(image, ledger, record, port, time, &list[start..next]);
+                ledger = bring(
+                    image,
+                    ledger,
+                    record,
+                    Event::Frame(port, time),
+                    &list[start..next],
+                );
                 record = following(record);
                 at = next;
             }
             Record::Release { partition, next } => {
-                ledger = release(image, ledger, record, partition);
+                ledger = bring(image, ledger, record, Event::Release(partition), b"");
                 record = following(record);
                 at = next;
             }
@@ -111,8 +101,8 @@ pub fn walk(image: &[u32]) {
     if MOST < count {
         return;
     }
-    let fresh = ledger::fresh::fresh_ledger(image);
-    let start = fresh.ledger;
-    let end = records_of(image, &list[..count], start, filled.broken);
-    tiles(image, end);
+    let mut cells = [0u64; CELLS];
+    ledger::fresh::fresh_ledger(image, &mut cells);
+    let end = records_of(image, &list[..count], Ledger { cells }, filled.broken);
+    tiles(image, &end.cells);
 }

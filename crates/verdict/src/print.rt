@@ -1,5 +1,7 @@
 // What is printed, a function a kind of line. Numbers are decimal; shares are the 16 hexadecimal digits of a float's bits.
-use judge::Verdict;
+use judge::settle::Verdict;
+use ledger::Answer;
+use lent::Told;
 use libc::STDOUT_FILENO;
 use ports::Sending;
 use tile::shares::Asked;
@@ -34,7 +36,7 @@ pub fn config_refused(n: u32) {
     not_loaded(4);
 }
 
-pub fn refused(n: u64) {
+fn refused(n: u64) {
     after(b"refused ", n);
     text(b"\n");
 }
@@ -58,7 +60,7 @@ fn sent(record: u64, s: Sending) {
     text(b"\n");
 }
 
-pub fn verdict(record: u64, v: Verdict) {
+fn verdict(record: u64, v: Verdict) {
     match v {
         Verdict::Refused(n) => refused(n as u64),
         Verdict::Drop(n) => {
@@ -70,9 +72,21 @@ pub fn verdict(record: u64, v: Verdict) {
     }
 }
 
-pub fn released(record: u64) {
-    after(b"release ", record);
-    text(b" ok\n");
+fn released(record: u64, a: Answer) {
+    match a {
+        Answer::Refused(n) => refused(n as u64),
+        Answer::Done => {
+            after(b"release ", record);
+            text(b" ok\n");
+        }
+    }
+}
+
+pub fn told(record: u64, t: Told) {
+    match t {
+        Told::Judged(v) => verdict(record, v),
+        Told::Released(a) => released(record, a),
+    }
 }
 
 fn shares(port: u64, frames: u64, drops: u64, share: f64, octets: f64) {
