@@ -1,5 +1,5 @@
 -- What each way through a write leaves, and that data of one block alone leave on the numbers what `wroteFlat` says.
-use mathlib.Core.Path.{_≡_, refl, sym, _∙_, ap, subst}
+use mathlib.Core.Path.{_≡_, refl, sym, _∙_, ap, ap₂, subst}
 use mathlib.Core.Bool.{Bool, true, false, cond, not}
 use mathlib.Core.List.{List, [], _∷_}
 use Prim.Native.Nat.{ℕ, _+_, _-_, _<_, _≤_}
@@ -10,6 +10,7 @@ use lib.Seq.{sets}
 use borrow.Author.Tests.{ltb-false, lt-ltb, eqb-true, not-false}
 use Rattle.laws.specs.Chain.{hit, pass}
 use Rattle.crc.specs.Crc.{wordsIn}
+use Rattle.crc.specs.declared.Both.{Both}
 use Rattle.image.specs.Layout.{imageWords}
 use Rattle.image.specs.Loaded.{tooShort}
 use Rattle.image.specs.Tables.{indexOf, tables}
@@ -173,3 +174,13 @@ module _ (c buffer words : List ℕ) (place : ℕ) (e : place ≡ flatPlace c bu
   pub writes-word : (r : ℕ) (after kept : List ℕ) → length words ≡ 1 → Takes c buffer (getD words 0 0 ∷ []) place r after kept
       → WritesFlat c buffer words r after kept
   writes-word r after kept one t = writes-words r after kept (subst (λ (l : List ℕ). Takes c buffer l place r after kept) (sym (one-word words one)) t)
+
+-- the registers over the words, and the numbers moved by them
+pub takes : (c buffer words : List ℕ) (place : ℕ) (s t : Both) (after kept : List ℕ) → (s .block ≡ loadIn c .block) × (s .stream ≡ loadIn c .stream)
+    → (t .block ≡ wordsIn (s .block) words) × (t .stream ≡ wordsIn (s .stream) words)
+    → after ≡ moved c (length words) (joined (t .stream) (t .block))
+    → kept ≡ sets buffer place words
+    → Takes c buffer words place 0xFFFFFFFF after kept
+takes c buffer words place s t after kept p q e k =
+    let by : ℕ → ℕ = λ x. wordsIn x words in
+    record { more = refl; moves = e ∙ ap₂ (λ (x y : ℕ). moved c (length words) (joined x y)) (q .1 ∙ ap by (p .1)) (q .0 ∙ ap by (p .0)); stored = k }

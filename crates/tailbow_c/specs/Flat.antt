@@ -58,6 +58,7 @@ storedIn c l = sets c 0 (numbersOf c l)
 
 -- ---- and back
 
+-- the phases by their numbers; past them an answer has been told
 abbrev pub phases : List Phase
 phases = Device ∷ Id ∷ Length ∷ Sum ∷ Data ∷ []
 

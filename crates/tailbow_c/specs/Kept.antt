@@ -92,7 +92,7 @@ module _ (c buffer words : List ℕ) (six : length c ≡ 6) (state : isLoad c �
   state-after = ap loadIn is ∙ state-back c next six fits
 
   pub is-state-after : isLoad (wroteFlat c buffer words .numbers) ≡ true
-  is-state-after = ap isLoad is ∙ is-state c next six fits
+  is-state-after = ap isLoad is ∙ is-state c next six
 
   pub six-after : length (wroteFlat c buffer words .numbers) ≡ 6
   six-after = ap length is ∙ length-sets c 0 (numbersOf c next) ∙ six

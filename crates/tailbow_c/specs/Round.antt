@@ -38,7 +38,7 @@ joined-halves n = omega arith
 pub put-back : (c : List ℕ) (i v : ℕ) (vs : List ℕ) → v ≡ getD c i 0 → sets c i (v ∷ vs) ≡ sets c (suc i) vs
 put-back c i v vs e = ap (λ (l : List ℕ). sets l (suc i) vs) (ap (set c i) e ∙ set-getD c i 0)
 
-pub phase-kept : (n told : ℕ) → n ≤ 5 → joined (phaseNumber (phaseOf n told)) (toldIn told (phaseOf n told)) ≡ joined n told
+phase-kept : (n told : ℕ) → n ≤ 5 → joined (phaseNumber (phaseOf n told)) (toldIn told (phaseOf n told)) ≡ joined n told
 phase-kept zero told h = refl
 phase-kept (suc zero) told h = refl
 phase-kept (suc (suc zero)) told h = refl
@@ -102,9 +102,9 @@ pub record Halves (l : Load) : Type 0 where
   pub first : l .first < 4294967296
   pub stream : l .stream < 4294967296
 
-module _ (c : List ℕ) (l : Load) (six : length c ≡ 6) (fits : Halves l) where
-  pub state-back : loadIn (storedIn c l) ≡ l
-  state-back =
+module _ (c : List ℕ) (l : Load) (six : length c ≡ 6) where
+  pub state-back : Halves l → loadIn (storedIn c l) ≡ l
+  state-back fits =
       let p : phaseNumber (l .phase) < 4294967296 = omega (arith, phase-fits (l .phase)) in
       let t : indexOf (l .table) < 4294967296 = omega (arith, index-lt (l .table)) in
       let f : l .first < 4294967296 = fits .first in
@@ -146,5 +146,5 @@ as-found c buffer words e kept =
 pub through : (c : List ℕ) (l : Load) (buffer words : List ℕ) → length c ≡ 6 → Halves l
     → wroteFlat (storedIn c l) buffer words ≡ flattened (storedIn c l) (wrote l buffer words)
 through c l buffer words six fits =
-    of-state (storedIn c l) buffer words (is-state c l six fits)
+    of-state (storedIn c l) buffer words (is-state c l six)
     ∙ ap (λ (s : Load). flattened (storedIn c l) (wrote s buffer words)) (state-back c l six fits)

@@ -120,6 +120,7 @@ fn phase_of(number: u64, told: u32) -> Phase
     }
 }
 
+// A number that no table has is never asked for: `is_load` and `place_of` refuse it.
 fn table_of(number: u64) -> Table
     ensures { λ r. ⌜ r ≡ tableOf number ⌝ }
 {

@@ -1,6 +1,6 @@
 -- `tailbow_c::loads::place_of`: its tests in the definition's order, then the block's.
 use borrow.Author.Needs.{needs}
-use Rattle.laws.specs.Chain.{chain}
+use Rattle.laws.specs.Chain.{hit, pass, hit-ne, pass-ne, hit-lt, pass-lt}
 use Rattle.loader.proofs.Laws.{has-room}
 use Rattle.tailbow_c.specs.Data.{flatPlace}
 use Rattle.tailbow_c.proofs.LoadLaws.{place-by}
@@ -9,19 +9,19 @@ use Rattle.tailbow_c.proofs.loads.place_of.Tie as tie
 
 returns : tie.Need-returns
 unfolding flatPlace
-returns c = search (needs, chain) depth 40
+returns c = search hit
 
 returns-2 : tie.Need-returns-2
 unfolding flatPlace
-returns-2 c = search (needs, chain) depth 40
+returns-2 c = search (pass, hit-ne)
 
 returns-3 : tie.Need-returns-3
 unfolding flatPlace
-returns-3 c = search (needs, chain) depth 40
+returns-3 c = search (pass, pass-ne, hit-lt)
 
 returns-4 : tie.Need-returns-4
 unfolding flatPlace
-returns-4 c = search (needs, chain, place-by) depth 40
+returns-4 c = search (pass, pass-ne, pass-lt, place-by)
 
 pub place-of-spec : {M : Type 1} → statement M
 place-of-spec =

@@ -2,12 +2,14 @@
 use mathlib.Core.Path.{refl}
 use borrow.Author.Needs.{needs}
 use Rattle.crc.specs.Crc.{wordsIn}
+use Rattle.tailbow_c.proofs.LoadLaws.{takes}
 use Rattle.tailbow_c.proofs.loads.take_word.Statement.{statement}
 use Rattle.tailbow_c.proofs.loads.take_word.Tie as tie
 
 returns : tie.Need-returns
 unfolding wordsIn
-returns c = record { more = refl; moves = cc; stored = refl }
+returns c =
+    takes _ _ _ _ _ _ _ _ (c .before .before .before .sums-of .ensures) (c .before .before .word-in-both .ensures) (c .move-on .ensures) refl
 
 pub take-word-spec : {M : Type 1} → statement M
 take-word-spec =

@@ -1,6 +1,6 @@
 -- `tailbow_c::loads::take_words`: the words stored, and the state moved over them.
-use mathlib.Core.Path.{refl}
 use borrow.Author.Needs.{needs}
+use Rattle.tailbow_c.proofs.LoadLaws.{takes}
 use Rattle.tailbow_c.proofs.loads.take_words.Statement.{statement}
 use Rattle.tailbow_c.proofs.loads.take_words.Tie as tie
 
@@ -13,4 +13,4 @@ take-words-spec =
     (λ c κs. search needs)
     (λ c κs. search needs)
     (λ c. search needs)
-    (λ c. record { more = refl; moves = cc; stored = search needs }))
+    (λ c. takes _ _ _ _ _ _ _ _ (c .before .before .before .sums-of .ensures) (c .before .before .words-in-both .ensures) (c .move-on .ensures) (c .before .before .before .before .before .before .before .copy .ensures)))
