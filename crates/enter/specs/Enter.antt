@@ -13,16 +13,12 @@ use Rattle.enter.specs.declared.Entered.{Entered}
 use Rattle.enter.specs.declared.Entered.the-variants.{Dropped, In}
 use Rattle.enter.specs.Steps.{placedOf, keptOut}
 
--- 5 and 6
-unfoldable pub knownOf : List ℕ → ℕ → List ℕ → ℕ → ℕ → Bool → ℕ → Entered
-knownOf image port frame vlan priority tagged place =
-    cond (eqb (keptOut image port vlan tagged (sourceOf frame) place) 0) (In vlan place priority)
-    (Dropped (keptOut image port vlan tagged (sourceOf frame) place))
-
--- 4 by its answer
+-- 4 by its answer, then 5 and 6
 abbrev pub byPlace : List ℕ → ℕ → List ℕ → ℕ → ℕ → Bool → Placed → Entered
 byPlace image port frame vlan priority tagged Absent = Dropped 4
-byPlace image port frame vlan priority tagged (At place) = knownOf image port frame vlan priority tagged place
+byPlace image port frame vlan priority tagged (At place) =
+    cond (eqb (keptOut image port vlan tagged (sourceOf frame) place) 0) (In vlan place priority)
+    (Dropped (keptOut image port vlan tagged (sourceOf frame) place))
 
 -- 1 to 3 by their answer
 abbrev pub byIntake : List ℕ → ℕ → List ℕ → Intake → Entered

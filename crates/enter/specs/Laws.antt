@@ -1,5 +1,5 @@
 -- What a frame that steps 1 to 6 let in has.
-use mathlib.Core.Path.{_≡_, refl, sym}
+use mathlib.Core.Path.{_≡_, refl, sym, _∙_, ap}
 use mathlib.Core.Bool.{Bool, true, false, cond}
 use mathlib.Core.List.{List}
 use Prim.Native.Nat.{ℕ, _<_, _≤_}
@@ -7,6 +7,7 @@ use native.Mathlib.Omega.{arith}
 use lib.Dec.{eqb}
 use lib.ListN.{length}
 use borrow.Author.Tests.{eqb-false}
+use Rattle.laws.specs.Chain.{at-zero, not-zero}
 use Rattle.laws.specs.Scan.{first-within}
 use Rattle.image.specs.Layout.{countOf}
 use Rattle.image.specs.Fields.{vlanid}
@@ -21,7 +22,7 @@ use Rattle.enter.specs.declared.Placed.the-variants.{Absent, At}
 use Rattle.enter.specs.declared.Entered.{Entered}
 use Rattle.enter.specs.declared.Entered.the-variants.{Dropped, In}
 use Rattle.enter.specs.Steps.{placedOf, keptOut}
-use Rattle.enter.specs.Enter.{knownOf, byPlace, byIntake, enterOf}
+use Rattle.enter.specs.Enter.{byPlace, byIntake, enterOf}
 
 -- where 4 finds an entry, it is one of 07's
 abbrev pub Inside : List ℕ → Placed → Type 0
@@ -39,6 +40,16 @@ inside image vlan = by (eqb (vlanAt image vlan) (countOf image 2)) refl
     by true e = tt
     by false e = less _ _ (first-within (countOf image 2) (λ i. eqb (vlanid image i) vlan)) (eqb-false _ _ (sym e))
 
+-- a place q that was matched, and a number n that 5 and 6 come to with the source that was read: it drops the frame, or does not
+module _ (image : List ℕ) (port : ℕ) (frame : List ℕ) (vlan priority : ℕ) (tagged : Bool) (q : Placed) (place source n : ℕ) where
+  pub is-kept-out : q ≡ At place → source ≡ sourceOf frame → n ≡ keptOut image port vlan tagged source place → (n ≡ 0 → ⊥)
+      → Dropped n ≡ byPlace image port frame vlan priority tagged q
+  is-kept-out e h k z = rw e (let is = k ∙ ap (λ (x : ℕ). keptOut image port vlan tagged x place) h in not-zero n _ _ _ _ is z (ap Dropped is))
+
+  pub is-let-in : q ≡ At place → source ≡ sourceOf frame → n ≡ keptOut image port vlan tagged source place → n ≡ 0
+      → In vlan place priority ≡ byPlace image port frame vlan priority tagged q
+  is-let-in e h k z = rw e (at-zero n _ _ _ _ (k ∙ ap (λ (x : ℕ). keptOut image port vlan tagged x place) h) z refl)
+
 -- a frame that is let in: sixty bytes, a place of 07, a priority of three bits
 pub record LetIn (image frame : List ℕ) (place priority : ℕ) : Type 0 where
   pub long : 60 ≤ length frame
@@ -50,7 +61,7 @@ Through image frame (Dropped n) = Unit {0}
 Through image frame (In vlan place priority) = LetIn image frame place priority
 
 pub through : (image : List ℕ) (port : ℕ) (frame : List ℕ) → Through image frame (enterOf image port frame)
-unfolding enterOf knownOf
+unfolding enterOf
 through image port frame = by-intake (intakeOf image port frame) (whole image port frame)
   where
     known : (vlan priority place : ℕ) (out : ℕ) → 60 ≤ length frame → priority < 8 → place < countOf image 2 → (t : Bool)

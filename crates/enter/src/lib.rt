@@ -9,8 +9,8 @@ ghost use Rattle.image.specs.Sound.{Sound};
 ghost use Rattle.lookup.specs.Address.{holds};
 ghost use Rattle.frame.specs.Laws.{Whole};
 ghost use Rattle.enter.specs.Steps.{placedOf, outsider, keptOut};
-ghost use Rattle.enter.specs.Enter.{knownOf, byPlace, byIntake, enterOf};
-ghost use Rattle.enter.specs.Laws.{Inside, LetIn};
+ghost use Rattle.enter.specs.Enter.{byPlace, byIntake, enterOf};
+ghost use Rattle.enter.specs.Laws.{Inside};
 
 // Step 4: the VLAN's place in 07.
 pub enum Placed {
@@ -76,32 +76,7 @@ fn kept_out(image: &[u32], port: usize, vlan: u64, tagged: bool, source: u64, pl
     0
 }
 
-// Steps 5 and 6, with the VLAN's place.
-fn known(
-    image: &[u32],
-    port: usize,
-    frame: &[u8],
-    vlan: u64,
-    priority: u64,
-    tagged: bool,
-    place: usize,
-) -> Entered
-    requires { ⌜ Sound (now image) ⌝ }
-    requires { ⌜ port < 5 ⌝ }
-    requires { ⌜ LetIn (imageIn (now image)) (now frame) place priority ⌝ }
-    ensures { λ r. ⌜ r ≡ knownOf (imageIn (now (image .entry))) port (now (frame .entry)) vlan priority tagged place ⌝ }
-{
-    let drop = kept_out(image, port, vlan, tagged, frame::mac_at(frame, 6), place);
-    if drop != 0 {
-        return Entered::Dropped(drop);
-    }
-    Entered::In {
-        vlan,
-        place,
-        priority,
-    }
-}
-
+// Steps 4 to 6, by the answer of 4.
 fn by_place(
     image: &[u32],
     port: usize,
@@ -112,13 +87,21 @@ fn by_place(
     placed: Placed,
 ) -> Entered
     requires { ⌜ Sound (now image) ⌝ }
-    requires { ⌜ (port < 5) × (priority < 8) × (60 ≤ length (now frame)) ⌝ }
+    requires { ⌜ (port < 5) × (60 ≤ length (now frame)) ⌝ }
     requires { ⌜ Inside (imageIn (now image)) placed ⌝ }
     ensures { λ r. ⌜ r ≡ byPlace (imageIn (now (image .entry))) port (now (frame .entry)) vlan priority tagged placed ⌝ }
 {
-    match placed {
-        Placed::Absent => Entered::Dropped(4),
-        Placed::At(place) => known(image, port, frame, vlan, priority, tagged, place),
+    let Placed::At(place) = placed else {
+        return Entered::Dropped(4);
+    };
+    let drop = kept_out(image, port, vlan, tagged, frame::mac_at(frame, 6), place);
+    if drop != 0 {
+        return Entered::Dropped(drop);
+    }
+    Entered::In {
+        vlan,
+        place,
+        priority,
     }
 }
 

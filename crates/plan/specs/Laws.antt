@@ -1,5 +1,5 @@
 -- What a course has.
-use mathlib.Core.Path.{_≡_, refl, sym, _∙_, ap}
+use mathlib.Core.Path.{_≡_, refl, sym, _∙_, ap, subst}
 use mathlib.Core.Bool.{Bool, true, false, cond}
 use mathlib.Core.List.{List}
 use Prim.Native.Nat.{ℕ, _<_}
@@ -7,7 +7,8 @@ use native.Mathlib.Nat.{mod-lt}
 use lib.Pow.{pow-pos}
 use lib.Dec.{ltb, leb}
 use borrow.Author.Tests.{leb-false}
-use Rattle.image.specs.Layout.{countOf}
+use Rattle.image.specs.Layout.{imageIn, countOf, Held}
+use Rattle.image.specs.Sound.{Sound}
 use Rattle.image.specs.Fields.{sharindx, maxlen, smax, rate, partition}
 use Rattle.frame.specs.Bytes.{octetsOf, destinationOf}
 use Rattle.ports.specs.declared.Sending.{Sending}
@@ -41,6 +42,13 @@ abbrev pub Loaded : List ℕ → Policed → Type 0
 Loaded image Unmetered = Unit {0}
 Loaded image TooLong = Unit {0}
 Loaded image (By policer meter) = (policer < countOf image 1) × (meter < countOf image 1)
+
+-- and can be read, by an answer q that was matched
+pub policer-held : (buffer : List ℕ) (q : Policed) (k m : ℕ) → Sound buffer → Loaded (imageIn buffer) q → q ≡ By k m → Held 1 k buffer
+policer-held buffer q k m s l e = record { whole = s .within .whole; within = s .within .policers; there = subst (Loaded (imageIn buffer)) e l .0 }
+
+pub meter-held : (buffer : List ℕ) (q : Policed) (k m : ℕ) → Sound buffer → Loaded (imageIn buffer) q → q ≡ By k m → Held 1 m buffer
+meter-held buffer q k m s l e = record { whole = s .within .whole; within = s .within .policers; there = subst (Loaded (imageIn buffer)) e l .1 }
 
 pub policed : (image : List ℕ) (port priority destination octets : ℕ) → Loaded image (policedOf image port priority destination octets)
 unfolding policedOf

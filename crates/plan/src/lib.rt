@@ -9,7 +9,7 @@ ghost use Rattle.image.specs.Layout.{imageIn, countOf};
 ghost use Rattle.image.specs.Sound.{Sound};
 ghost use Rattle.enter.specs.Laws.{LetIn};
 ghost use Rattle.plan.specs.Police.{policerOf, meteredBy, policedBy, policedOf};
-ghost use Rattle.plan.specs.Plan.{courseOf, byPolicer, planOf};
+ghost use Rattle.plan.specs.Plan.{byPolicer, planOf};
 ghost use Rattle.plan.specs.Laws.{Loaded};
 
 // Steps 7 and 8: no meter to use, too long for its policing entry, or let through by entry `policer` with the meter of entry `meter`.
@@ -87,31 +87,6 @@ fn police(image: &[u32], port: usize, priority: u64, destination: u64, octets: u
     policed_by(image, policer_of(port, priority, destination), octets)
 }
 
-fn course_of(
-    image: &[u32],
-    port: usize,
-    destination: u64,
-    vlan: u64,
-    place: usize,
-    priority: u64,
-    policer: usize,
-    meter: usize,
-) -> Course
-    requires { ⌜ Sound (now image) ⌝ }
-    requires { ⌜ (port < 5) × (place < countOf (imageIn (now image)) 2) × (priority < 8) ⌝ }
-    requires { ⌜ (policer < countOf (imageIn (now image)) 1) × (meter < countOf (imageIn (now image)) 1) ⌝ }
-    ensures { λ r. ⌜ r ≡ courseOf (imageIn (now (image .entry))) port destination vlan place priority policer meter ⌝ }
-{
-    let to = ports::ports(image, port, vlan, place, destination);
-    Course {
-        meter,
-        smax: image::policing::smax(image, meter),
-        rate: image::policing::rate(image, meter),
-        partition: image::policing::partition(image, policer) as usize,
-        sending: ports::send(image, port, to, vlan, priority, place),
-    }
-}
-
 fn by_policer(
     image: &[u32],
     port: usize,
@@ -130,17 +105,15 @@ fn by_policer(
         Policed::Unmetered => Planned::Dropped(7),
         Policed::TooLong => Planned::Dropped(8),
         Policed::By { policer, meter } => {
-            let w = course_of(
-                image,
-                port,
-                destination,
-                vlan,
-                place,
-                priority,
-                policer,
+            let to = ports::ports(image, port, vlan, place, destination);
+            let course = Course {
                 meter,
-            );
-            Planned::Goes(w)
+                smax: image::policing::smax(image, meter),
+                rate: image::policing::rate(image, meter),
+                partition: image::policing::partition(image, policer) as usize,
+                sending: ports::send(image, port, to, vlan, priority, place),
+            };
+            Planned::Goes(course)
         }
     }
 }

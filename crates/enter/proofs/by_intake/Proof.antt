@@ -19,6 +19,6 @@ by-intake-spec =
     (λ c κs.
     let s = c .before .before .before .before .before .before in
     let h = subst (Whole (now (s .args .frame))) (c .before .before .intake2 .given .1) (s .pre .1 .1) in
-    (s .pre .0, ((s .pre .1 .0, h .1, h .0), subst (Inside (imageIn (now (s .args .image)))) (sym (c .place .ensures)) (inside (imageIn (now (s .args .image))) _))))
+    (s .pre .0, ((s .pre .1 .0, h .0), subst (Inside (imageIn (now (s .args .image)))) (sym (c .place .ensures)) (inside (imageIn (now (s .args .image))) _))))
     (λ c. ap (byIntake _ _ _) (sym (c .before .intake .given .1)))
     (λ c. c .by-place .ensures ∙ ap (byPlace _ _ _ _ _ _) (c .before .place .ensures) ∙ ap (byIntake _ _ _) (sym (c .before .before .before .intake2 .given .1))))

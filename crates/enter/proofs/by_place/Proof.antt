@@ -1,10 +1,9 @@
--- `enter::by_place`: by the answer of 4.
-use mathlib.Core.Path.{_≡_, sym, ap, subst, _∙_}
+-- `enter::by_place`: by the answer of 4, then 5 and 6.
+use mathlib.Core.Path.{subst}
 use borrow.Author.Needs.{needs}
 use denote.Ref.{now}
 use Rattle.image.specs.Layout.{imageIn}
-use Rattle.enter.specs.Enter.{byPlace}
-use Rattle.enter.specs.Laws.{Inside}
+use Rattle.enter.specs.Laws.{Inside, is-kept-out, is-let-in}
 use Rattle.enter.proofs.by_place.Statement.{statement}
 use Rattle.enter.proofs.by_place.Tie as tie
 
@@ -14,9 +13,12 @@ by-place-spec =
     (tie.spec
     (λ c. search needs)
     (λ c. search needs)
-    (λ c κs.
-    let s = c .before .before .before .before .before in
-    let h = s .pre .1 .0 in
-    (s .pre .0, (h .0, record { long = h .2; there = subst (Inside (imageIn (now (s .args .image)))) (c .before .placed .given .1) (s .pre .1 .1); narrow = h .1 })))
     (λ c. search needs)
-    (λ c. c .known .ensures ∙ ap (byPlace _ _ _ _ _ _) (sym (c .before .before .placed .given .1))))
+    (λ c κs. search needs)
+    (λ c κs.
+    let s = c .before .before .before .before .before .before in
+    (s .pre .0, (s .pre .1 .0 .0, subst (Inside (imageIn (now (s .args .image)))) (c .before .before .placed .given .1) (s .pre .1 .1))))
+    (λ c.
+    is-kept-out _ _ _ _ _ _ _ _ _ _ (c .before .before .before .before .placed .given .1) (c .before .before .mac-at .ensures) (c .before .kept-out .ensures) (c .if1 .taken))
+    (λ c.
+    is-let-in _ _ _ _ _ _ _ _ _ _ (c .before .before .before .before .placed .given .1) (c .before .before .mac-at .ensures) (c .before .kept-out .ensures) (c .if1 .left)))

@@ -1,11 +1,9 @@
--- `plan::by_policer`: by the answer of 7 and 8.
-use mathlib.Core.Path.{_≡_, sym, ap, subst, _∙_}
+-- `plan::by_policer`: by the answer of 7 and 8; the fields that were read are the course's.
+use mathlib.Core.Path.{_≡_, sym, ap, _∙_}
 use borrow.Author.Needs.{needs}
-use denote.Ref.{now}
-use Rattle.image.specs.Layout.{imageIn}
 use Rattle.plan.specs.declared.Planned.the-variants.{Goes}
 use Rattle.plan.specs.Plan.{byPolicer}
-use Rattle.plan.specs.Laws.{Loaded}
+use Rattle.plan.specs.Laws.{same-course, policer-held, meter-held}
 use Rattle.plan.proofs.by_policer.Statement.{statement}
 use Rattle.plan.proofs.by_policer.Tie as tie
 
@@ -16,9 +14,17 @@ by-policer-spec =
     (λ c. search needs)
     (λ c. search needs)
     (λ c. search needs)
+    (λ c κs. search needs)
+    (λ c κs. let s = c .before .before .before .before .before in meter-held _ _ _ _ (s .pre .0) (s .pre .1 .1) (c .before .before .policed .given .1))
+    (λ c κs. let s = c .before .before .before .before .before .before in meter-held _ _ _ _ (s .pre .0) (s .pre .1 .1) (c .before .before .before .policed .given .1))
     (λ c κs.
-    let s = c .before .before .before .before in
-    (s .pre .0, (s .pre .1 .0, subst (Loaded (imageIn (now (s .args .image)))) (c .before .policed .given .1) (s .pre .1 .1))))
-    (λ c. search needs)
-    (λ c. search needs)
-    (λ c. ap Goes (c .course-of .ensures) ∙ ap (byPolicer _ _ _ _ _ _) (sym (c .before .before .policed .given .1))))
+    let s = c .before .before .before .before .before .before .before in policer-held _ _ _ _ (s .pre .0) (s .pre .1 .1) (c .before .before .before .before .policed .given .1))
+    (λ c κs. search needs)
+    (λ c. ap (byPolicer _ _ _ _ _ _) (sym (c .enum-told .given .1)))
+    (λ c. ap (byPolicer _ _ _ _ _ _) (sym (c .enum-told2 .given .1)))
+    (λ c.
+    ap Goes
+    (same-course _ _ _ _ _ _ _ _ _ _ _ _ _ (c .before .before .before .smax .ensures .0) (c .before .before .rate .ensures .0) (c .before .partition .ensures .0)
+    (c .before .before .before .before .ports .ensures)
+    (c .send .ensures))
+    ∙ ap (byPolicer _ _ _ _ _ _) (sym (c .before .before .before .before .before .before .policed .given .1))))
