@@ -55,7 +55,7 @@ use Rattle.lent.proofs.Told as T
 use Rattle.lent.proofs.Told.Laws as T′
 use Rattle.lent.proofs.Brought as B
 use Rattle.lent.proofs.Brought.Laws as B′
-use Rattle.lent.proofs.Cell.{mach, Kept, ledger-in, ledger-out}
+use Rattle.lent.proofs.Held.{mach, Kept, ledger-in, ledger-out}
 use Rattle.lent.proofs.bring as bring
 use Rattle.lent.proofs.bring.Symbol as bring-def
 use Rattle.lent.proofs.bring.Symbol.{name as #lent·bring}
