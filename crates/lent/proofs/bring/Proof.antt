@@ -15,14 +15,12 @@ use prog.Memory.{Memory}
 use prog.Routine.{Routine}
 use prog.Wp.{Heap, Calls, Loops, WpFn, Tables}
 use ghost.Atoms.{Atoms, sem}
-use contract.Lifetimes.{Lfts, Shares}
 use contract.Monad.{Fun, fact}
 use contract.Running.{givenOf, tables, tablesOf}
 use types.Kit.{Given, ‵, raw, _⊛_, some, later, _$_, _∵_, !, qed, move, keep, drop, use1, split, join, group, pick, rewrite, fsplit, fsplit3, fjoin3, feqI, suffices, frame, await, done}
 use types.Part.{whole, sub, look-in}
 use types.Run.{look, look-raw, init, store-raw, forget, stop, hop, fld, from, load, of-opd, and-then, no-more, assigns, land, returns, enter, alloc1, alloc0, params1, pass1, pass0, free1, free0}
 use sound.WpLaws.{FmC, fmOf, WpFn-mono}
-use denote.RattleType.{owns}
 use denote.Laws.{Is, shows}
 use denote.Builtin.{u8, u32}
 use denote.Ref.{RefT, MutRef, ptr-vals, mut-tells}
@@ -34,7 +32,7 @@ use denote.Struct.Laws as LL
 use denote.Struct.Steps.{spelt}
 use denote.Triple.Statement.{Contract, Triple}
 use denote.Triple.Call.{calls-at}
-use denote.Triple.Entry.{Args, Vals, onEntry}
+use denote.Triple.Entry.{onEntry}
 use denote.Triple.Spec.{Meets, tripleOf}
 use denote.Triple.Table.{entered, cited}
 use denote.Triple.Walked.{says, Stays, stay-none, stay-none-slice, stay-ref, walkOf, goes-none, goes-none-slice, goes-ref, ends-at, walked, walk-meets}
@@ -71,50 +69,27 @@ module _ {M : Type 1} (𝓤 : URA M) (H : Heap 𝓤) (A : Atoms 𝓤) (mem : Mem
   Step = tripleOf 𝓤 H A step.signature (step.spec 𝓤 H A mem run)
 
 module _ {M : Type 1} (𝓤 : URA M) (H : Heap 𝓤) (A : Atoms 𝓤) (W : Given 𝓤 H A) (at-mem : Memory → SProp 𝓤) (run : Routine → Fun 𝓤) (κ₀ κ₁ κ₂ : Lft) (q₀ q₁ q₂ : Share) (s : RefT (List ℕ)) (b o : ℕ) (γ : GName) (h : Ledger) (v : Event) (f : RefT (List ℕ)) (okv : KeptE v) where
-  abbrev κs : Lfts 3
-  κs = (κ₀, (κ₁, (κ₂, tt)))
-
-  abbrev qs : Shares 3
-  qs = (q₀, (q₁, (q₂, tt)))
-
-  abbrev x : Args bring.signature κs
-  x = (s, (record { ptr = (b, o); name = γ; now = h }, (v, (f, tt))))
-
-  abbrev at : Vals bring.signature κs
-  at = (machS s ∷ [], (vptr b o ∷ [], (machE v ∷ [], (machS f ∷ [], tt))))
-
-  abbrev Post : Val → SProp 𝓤
-  Post = walkOf 𝓤 H A bring.ended stayed (bring.clauses 𝓤 H A at-mem run) .post ((κs, qs, tt, x, at), tt)
+  -- where the walk is: lifetimes, shares, what is passed, and its machine values
+  abbrev here : walkOf 𝓤 H A bring.ended stayed (bring.clauses 𝓤 H A at-mem run) .Ghost
+  here = (((κ₀, (κ₁, (κ₂, tt))), (q₀, (q₁, (q₂, tt))), tt, (s, (record { ptr = (b, o); name = γ; now = h }, (v, (f, tt)))), (machS s ∷ [], (vptr b o ∷ [], (machE v ∷ [], (machS f ∷ [], tt))))), tt)
 
   -- what the loan owns at a ledger
   abbrev Loan : Ledger → Fml
   Loan g = MutRef (named 1) κ₁ L.the-row .own (record { ptr = (b, o); name = γ; now = g }) (vptr b o ∷ [])
 
-  -- what the callee is passed
-  abbrev κs′ : Lfts 2
-  κs′ = (κ₀, (κ₂, tt))
-
-  abbrev qs′ : Shares 2
-  qs′ = (q₀, (q₂, tt))
-
-  abbrev x′ : Args step.signature κs′
-  x′ = (s, (h, (v, (f, tt))))
-
-  abbrev at′ : Vals step.signature κs′
-  at′ = (machS s ∷ [], (mach h ∷ [], (machE v ∷ [], (machS f ∷ [], tt))))
-
+  -- and the callee
   abbrev to : Step 𝓤 H A at-mem run .Ghost
-  to = ((κs′, qs′, tt, x′, at′), tt)
+  to = (((κ₀, (κ₂, tt)), (q₀, (q₂, tt)), tt, (s, (h, (v, (f, tt)))), (machS s ∷ [], (mach h ∷ [], (machE v ∷ [], (machS f ∷ [], tt))))), tt)
 
   -- of the callee's `ensured`, the clause alone: it has no `&mut`, so what is said of last values is dropped
-  said : (r : Brought) → ent 𝓤 (ensured 𝓤 H A step.ended (step.clauses 𝓤 H A at-mem run) κs′ x′ tt r) (fact 𝓤 (Brings (s .now) (h .cells) v (f .now) (r .told) (r .ledger .cells)))
-  said r = exE 𝓤 _ (λ ws. snd∗ 𝓤 (sem 𝓤 H A (lasts step.ended κs′ x′ ws)) (fact 𝓤 (Brings (s .now) (h .cells) v (f .now) (r .told) (r .ledger .cells))))
+  said : (r : Brought) → ent 𝓤 (ensured 𝓤 H A step.ended (step.clauses 𝓤 H A at-mem run) (to .0 .0) (to .0 .3) tt r) (fact 𝓤 (Brings (s .now) (h .cells) v (f .now) (r .told) (r .ledger .cells)))
+  said r = exE 𝓤 _ (λ ws. snd∗ 𝓤 (sem 𝓤 H A (lasts step.ended (to .0 .0) (to .0 .3) ws)) (fact 𝓤 (Brings (s .now) (h .cells) v (f .now) (r .told) (r .ledger .cells))))
 
   module _ (C : Calls 𝓤 H) (Λ : Loops 𝓤 H) (fm : FmC 𝓤 H (W .laws) C) (known : Triple 𝓤 (C #lent·step) (Step 𝓤 H A at-mem run)) where
     walk : Is (ShrSlice (named 0) κ₀ u32) s (machS s ∷ []) → Is (ShrSlice (named 2) κ₂ u8) f (machS f ∷ [])
-        → ent 𝓤 (onEntry 𝓤 H A bring.signature κs qs x at) (WpFn 𝓤 H C Λ code.function (machS s ∷ vptr b o ∷ machE v ∷ machS f ∷ []) Post)
+        → ent 𝓤 (onEntry 𝓤 H A bring.signature (here .0 .0) (here .0 .1) (here .0 .3) (here .0 .4)) (WpFn 𝓤 H C Λ code.function (machS s ∷ vptr b o ∷ machE v ∷ machS f ∷ []) (walkOf 𝓤 H A bring.ended stayed (bring.clauses 𝓤 H A at-mem run) .post here))
     walk ps pf =
-        qed W ((‵ (flft κ₀ q₀) ⊛ (‵ (flft κ₁ q₁) ⊛ (‵ (flft κ₂ q₂) ⊛ ‵ ftrue))) ∷ ‵ (owns (ShrSlice (named 0) κ₀ u32 ∷ MutRef (named 1) κ₁ L.the-row ∷ E.the-row ∷ ShrSlice (named 2) κ₂ u8 ∷ []) x at) ∷ []) ∵
+        qed W ((‵ (flft κ₀ q₀) ⊛ (‵ (flft κ₁ q₁) ⊛ (‵ (flft κ₂ q₂) ⊛ ‵ ftrue))) ∷ ‵ (Passed κ₀ 2 κ₂ s v f (Loan h)) ∷ []) ∵
         split ! $ move ! (1 ∷ []) $ split ! $ move ! (1 ∷ []) $ split ! $
         move ! (4 ∷ []) $ fsplit ! $ move ! (1 ∷ []) $ fsplit ! $ move ! (1 ∷ []) $ fsplit ! $ move ! (1 ∷ []) $ fsplit ! $
         -- [the frame's; true; the event's; the reference; the image's; κ₂; true; κ₁; κ₀]
@@ -132,7 +107,7 @@ module _ {M : Type 1} (𝓤 : URA M) (H : Heap 𝓤) (A : Atoms 𝓤) (W : Given
         nothing ! $ move ! (23 ∷ 0 ∷ []) $ join ! $ move ! (22 ∷ 0 ∷ []) $ join ! $ move ! (0 ∷ 3 ∷ []) $ join ! $ nothing ! $ move ! (1 ∷ 0 ∷ []) $ join ! $ use1 W (raw (Step 𝓤 H A at-mem run .pre to)) (id⊢ 𝓤 _) $
         -- [what the callee asks; the image's; the frame's; the ledger's cell; the open borrow; obs; auth; _6; …; room for _5; …; _4; …; _3; …; _2; …; _1; …; room for _0; …]
         calls-at ! fm (Step 𝓤 H A at-mem run) known to (and-then ! (load ! (from ! (stop !)) (look ! 17 refl)) (and-then ! (load ! (from ! (stop !)) (look ! 7 refl)) (and-then ! (load ! (from ! (stop !)) (look ! 13 refl)) (and-then ! (load ! (from ! (stop !)) (look ! 11 refl)) (no-more !))))) (λ u.
-        use1 W (later (some (λ (r : Brought). ((‵ (flft κ₀ q₀) ⊛ (‵ (flft κ₂ q₂) ⊛ ‵ ftrue)) ⊛ ‵ (B.the-row .own r (u ∷ []))) ⊛ raw (ensured 𝓤 H A step.ended (step.clauses 𝓤 H A at-mem run) κs′ x′ tt r)))) (id⊢ 𝓤 _) $ await ! tt $ pick ! (λ r.
+        use1 W (later (some (λ (r : Brought). ((‵ (flft κ₀ q₀) ⊛ (‵ (flft κ₂ q₂) ⊛ ‵ ftrue)) ⊛ ‵ (B.the-row .own r (u ∷ []))) ⊛ raw (ensured 𝓤 H A step.ended (step.clauses 𝓤 H A at-mem run) (to .0 .0) (to .0 .3) tt r)))) (id⊢ 𝓤 _) $ await ! tt $ pick ! (λ r.
         split ! $ move ! (1 ∷ []) $ use1 W (raw (fact 𝓤 (Brings (s .now) (h .cells) v (f .now) (r .told) (r .ledger .cells)))) (said r) $ heard ! (Brings (s .now) (h .cells) v (f .now) (r .told) (r .ledger .cells)) (λ e. split ! $ move ! (1 ∷ []) $
         facts ! B.the-row (Is B.the-row) (shows 𝓤 H A B.the-row) r (u ∷ []) (λ is′.
         -- [κ₀ and κ₂; the image's; the frame's; the ledger's cell; the open borrow; obs; auth; _6; …]
@@ -146,7 +121,7 @@ module _ {M : Type 1} (𝓤 : URA M) (H : Heap 𝓤) (A : Atoms 𝓤) (W : Given
         returns ! (look ! 18 refl) $ forget ! 6 refl $ forget ! 8 refl $ forget ! 10 refl $ forget ! 12 refl $ forget ! 14 refl $ forget ! 16 refl $ forget ! 18 refl $
         move ! (18 ∷ 19 ∷ []) $ free1 ! $ move ! (16 ∷ 17 ∷ []) $ free1 ! $ move ! (14 ∷ 15 ∷ []) $ free1 ! $
         move ! (12 ∷ 13 ∷ []) $ free1 ! $ move ! (10 ∷ 11 ∷ []) $ free1 ! $ move ! (8 ∷ 9 ∷ []) $ free1 ! $ move ! (6 ∷ 7 ∷ []) $ free1 ! $ free0 ! $
-        suffices ! _ (ends-at 𝓤 H A bring.ended stayed (bring.clauses 𝓤 H A at-mem run) W ((κs, qs, tt, x, at), tt) (EL.val T.the-type T′.the-laws (r .told)) (r .told) (tt, (r .ledger, (tt, (tt, tt)))) (tt, (tt, (tt, (tt, tt))))) $ says ! e $
+        suffices ! _ (ends-at 𝓤 H A bring.ended stayed (bring.clauses 𝓤 H A at-mem run) W here (EL.val T.the-type T′.the-laws (r .told)) (r .told) (tt, (r .ledger, (tt, (tt, tt)))) (tt, (tt, (tt, (tt, tt))))) $ says ! e $
         move ! (3 ∷ []) $ split ! $ move ! (4 ∷ 1 ∷ []) $ join ! $ move ! (1 ∷ 0 ∷ []) $ join ! $ frame ! $
         -- [obs; the borrow; the image's; the frame's]
         feqI ! (List Val) (vptr b o ∷ []) (vptr b o ∷ []) refl $ fjoin3 ! $ group ! 3 $ use1 W (‵ (Passed κ₀ 2 κ₂ s v f (Loan (r .ledger)))) (passed κ₀ 2 κ₂ s v f 𝓤 H A W okv (Loan (r .ledger))) $

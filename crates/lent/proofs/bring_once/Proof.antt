@@ -13,7 +13,6 @@ use prog.Memory.{Memory}
 use prog.Routine.{Routine}
 use prog.Wp.{Heap, Calls, Loops, WpFn, Tables}
 use ghost.Atoms.{Atoms}
-use contract.Lifetimes.{Lfts, Shares}
 use contract.Monad.{Fun, fact}
 use contract.Running.{givenOf, tables, tablesOf}
 use types.Kit.{Given, ‵, raw, _⊛_, given, some, later, _$_, _∵_, !, qed, move, keep, drop, use1, use3, split, join, group, learn, pick, rewrite, fsplit, suffices, frame, await, done}
@@ -22,7 +21,6 @@ use types.Part.{agg}
 use types.Run.{look, init, forget, stop, from, load, of-opd, addr, and-then, no-more, assigns, land, returns, enter, alloc1, alloc0, params1, pass1, pass0, free1, free0}
 use types.SemTy.{Body}
 use sound.WpLaws.{FmC, fmOf, WpFn-mono}
-use denote.RattleType.{owns}
 use denote.Laws.{Is, shows}
 use denote.Memory.{mem, partAt}
 use denote.Builtin.{u8, u32}
@@ -35,7 +33,7 @@ use denote.Enum.Laws as EL
 use denote.Struct.Laws as LL
 use denote.Triple.Statement.{Contract, Triple}
 use denote.Triple.Call.{calls-at}
-use denote.Triple.Entry.{Args, Vals, onEntry}
+use denote.Triple.Entry.{onEntry}
 use denote.Triple.Spec.{Meets, tripleOf}
 use denote.Triple.Table.{entered, cited}
 use denote.Triple.Walked.{says, Stays, stay-none, stay-none-slice, walkOf, goes-none, goes-none-slice, ends-at, walked, walk-meets}
@@ -76,46 +74,23 @@ module _ {M : Type 1} (𝓤 : URA M) (H : Heap 𝓤) (A : Atoms 𝓤) (mem : Mem
   Bring = tripleOf 𝓤 H A bring.signature (bring.spec 𝓤 H A mem run)
 
 module _ {M : Type 1} (𝓤 : URA M) (H : Heap 𝓤) (A : Atoms 𝓤) (W : Given 𝓤 H A) (at-mem : Memory → SProp 𝓤) (run : Routine → Fun 𝓤) (κ₀ κ₁ : Lft) (q₀ q₁ : Share) (s : RefT (List ℕ)) (h : Ledger) (v : Event) (f : RefT (List ℕ)) (okh : Kept h) (okv : KeptE v) where
-  abbrev κs : Lfts 2
-  κs = (κ₀, (κ₁, tt))
+  -- where the walk is: lifetimes, shares, what is passed, and its machine values
+  abbrev here : walkOf 𝓤 H A once.ended stayed (once.clauses 𝓤 H A at-mem run) .Ghost
+  here = (((κ₀, (κ₁, tt)), (q₀, (q₁, tt)), tt, (s, (h, (v, (f, tt)))), (machS s ∷ [], (mach h ∷ [], (machE v ∷ [], (machS f ∷ [], tt))))), tt)
 
-  abbrev qs : Shares 2
-  qs = (q₀, (q₁, tt))
-
-  abbrev x : Args once.signature κs
-  x = (s, (h, (v, (f, tt))))
-
-  abbrev at : Vals once.signature κs
-  at = (machS s ∷ [], (mach h ∷ [], (machE v ∷ [], (machS f ∷ [], tt))))
-
-  abbrev Post : Val → SProp 𝓤
-  Post = walkOf 𝓤 H A once.ended stayed (once.clauses 𝓤 H A at-mem run) .post ((κs, qs, tt, x, at), tt)
-
-  -- what the callee is passed: the local at (l, 0) under the name δ, lent for α
+  -- and the callee, which is passed the local at (l, 0) under the name δ, lent for α
   module _ (α l : ℕ) (δ : GName) where
-    abbrev κs′ : Lfts 3
-    κs′ = (κ₀, (α ∷ [], (κ₁, tt)))
-
-    abbrev qs′ : Shares 3
-    qs′ = (q₀, (fullShare, (q₁, tt)))
-
-    abbrev x′ : Args bring.signature κs′
-    x′ = (s, (record { ptr = (l, 0); name = δ; now = h }, (v, (f, tt))))
-
-    abbrev at′ : Vals bring.signature κs′
-    at′ = (machS s ∷ [], (vptr l 0 ∷ [], (machE v ∷ [], (machS f ∷ [], tt))))
-
     abbrev to : Bring 𝓤 H A at-mem run .Ghost
-    to = ((κs′, qs′, tt, x′, at′), tt)
+    to = (((κ₀, (α ∷ [], (κ₁, tt))), (q₀, (fullShare, (q₁, tt))), tt, (s, (record { ptr = (l, 0); name = δ; now = h }, (v, (f, tt)))), (machS s ∷ [], (vptr l 0 ∷ [], (machE v ∷ [], (machS f ∷ [], tt))))), tt)
 
     abbrev Loan : Fml
     Loan = MutRef (named 1) (α ∷ []) L.the-row .own (record { ptr = (l, 0); name = δ; now = h }) (vptr l 0 ∷ [])
 
   module _ (C : Calls 𝓤 H) (Λ : Loops 𝓤 H) (fm : FmC 𝓤 H (W .laws) C) (known : Triple 𝓤 (C #lent·bring) (Bring 𝓤 H A at-mem run)) where
     walk : Is (ShrSlice (named 0) κ₀ u32) s (machS s ∷ []) → Is (ShrSlice (named 1) κ₁ u8) f (machS f ∷ [])
-        → ent 𝓤 (onEntry 𝓤 H A once.signature κs qs x at) (WpFn 𝓤 H C Λ code.function (machS s ∷ mach h ∷ machE v ∷ machS f ∷ []) Post)
+        → ent 𝓤 (onEntry 𝓤 H A once.signature (here .0 .0) (here .0 .1) (here .0 .3) (here .0 .4)) (WpFn 𝓤 H C Λ code.function (machS s ∷ mach h ∷ machE v ∷ machS f ∷ []) (walkOf 𝓤 H A once.ended stayed (once.clauses 𝓤 H A at-mem run) .post here))
     walk ps pf =
-        qed W ((‵ (flft κ₀ q₀) ⊛ (‵ (flft κ₁ q₁) ⊛ ‵ ftrue)) ∷ ‵ (owns (ShrSlice (named 0) κ₀ u32 ∷ L.the-row ∷ E.the-row ∷ ShrSlice (named 1) κ₁ u8 ∷ []) x at) ∷ []) ∵
+        qed W ((‵ (flft κ₀ q₀) ⊛ (‵ (flft κ₁ q₁) ⊛ ‵ ftrue)) ∷ ‵ (Passed κ₀ 1 κ₁ s v f (L.the-row .own h (mach h ∷ []))) ∷ []) ∵
         split ! $ move ! (1 ∷ []) $ split ! $
         move ! (3 ∷ []) $ fsplit ! $ move ! (1 ∷ []) $ fsplit ! $ move ! (1 ∷ []) $ fsplit ! $ move ! (1 ∷ []) $ fsplit ! $
         -- [the frame's; true; the event's; h's; the image's; κ₁; true; κ₀]
@@ -134,8 +109,8 @@ module _ {M : Type 1} (𝓤 : URA M) (H : Heap 𝓤) (A : Atoms 𝓤) (W : Given
         nothing ! $ move ! (24 ∷ 0 ∷ []) $ join ! $ move ! (5 ∷ 0 ∷ []) $ join ! $ move ! (22 ∷ 0 ∷ []) $ join ! $ move ! (0 ∷ 3 ∷ []) $ join ! $ nothing ! $ move ! (1 ∷ 0 ∷ []) $ join ! $ use1 W (raw (Bring 𝓤 H A at-mem run .pre (to α l₅ δ))) (id⊢ 𝓤 _) $
         -- [what the callee asks; the image's; the frame's; the lender's part; room for _8; …; _7; …; room for _6; …; what frees _5; _4; …; _3; …; _2; …; _1; …; room for _0; …]
         calls-at ! fm (Bring 𝓤 H A at-mem run) known (to α l₅ δ) (and-then ! (load ! (from ! (stop !)) (look ! 17 refl)) (and-then ! (load ! (from ! (stop !)) (look ! 6 refl)) (and-then ! (load ! (from ! (stop !)) (look ! 13 refl)) (and-then ! (load ! (from ! (stop !)) (look ! 11 refl)) (no-more !))))) (λ u.
-        use1 W (later (some (λ (r : Told). ((‵ (flft κ₀ q₀) ⊛ (‵ (flft (α ∷ []) fullShare) ⊛ (‵ (flft κ₁ q₁) ⊛ ‵ ftrue))) ⊛ ‵ (T.the-row .own r (u ∷ []))) ⊛ raw (ensured 𝓤 H A bring.ended (bring.clauses 𝓤 H A at-mem run) (κs′ α l₅ δ) (x′ α l₅ δ) tt r)))) (id⊢ 𝓤 _) $ await ! tt $ pick ! (λ r.
-        split ! $ move ! (1 ∷ []) $ use1 W (some (λ (ws : Lasts bring.ended (κs′ α l₅ δ) (x′ α l₅ δ)). ‵ (lasts bring.ended (κs′ α l₅ δ) (x′ α l₅ δ) ws) ⊛ raw (fact 𝓤 (Brings (s .now) (h .cells) v (f .now) r (ws .1 .0 .cells))))) (id⊢ 𝓤 _) $ pick ! (λ ws.
+        use1 W (later (some (λ (r : Told). ((‵ (flft κ₀ q₀) ⊛ (‵ (flft (α ∷ []) fullShare) ⊛ (‵ (flft κ₁ q₁) ⊛ ‵ ftrue))) ⊛ ‵ (T.the-row .own r (u ∷ []))) ⊛ raw (ensured 𝓤 H A bring.ended (bring.clauses 𝓤 H A at-mem run) (to α l₅ δ .0 .0) (to α l₅ δ .0 .3) tt r)))) (id⊢ 𝓤 _) $ await ! tt $ pick ! (λ r.
+        split ! $ move ! (1 ∷ []) $ use1 W (some (λ (ws : Lasts bring.ended (to α l₅ δ .0 .0) (to α l₅ δ .0 .3)). ‵ (lasts bring.ended (to α l₅ δ .0 .0) (to α l₅ δ .0 .3) ws) ⊛ raw (fact 𝓤 (Brings (s .now) (h .cells) v (f .now) r (ws .1 .0 .cells))))) (id⊢ 𝓤 _) $ pick ! (λ ws.
         split ! $ move ! (1 ∷ []) $ heard ! (Brings (s .now) (h .cells) v (f .now) r (ws .1 .0 .cells)) (λ e. fsplit ! $ move ! (1 ∷ []) $ fsplit ! $ move ! (1 ∷ []) $ drop ! $ move ! (1 ∷ []) $ drop ! $
         -- [the last ledger; the tokens and the result; the image's; the frame's; the lender's part; …]
         move ! (1 ∷ []) $ split ! $ move ! (1 ∷ []) $ facts ! T.the-row (Is T.the-row) (shows 𝓤 H A T.the-row) r (u ∷ []) (λ is.
@@ -150,7 +125,7 @@ module _ {M : Type 1} (𝓤 : URA M) (H : Heap 𝓤) (A : Atoms 𝓤) (W : Given
         returns ! (look ! 20 refl) $ forget ! 0 refl $ forget ! 5 refl $ forget ! 7 refl $ forget ! 9 refl $ forget ! 12 refl $ forget ! 14 refl $ forget ! 16 refl $ forget ! 18 refl $ forget ! 20 refl $
         move ! (20 ∷ 21 ∷ []) $ free1 ! $ move ! (18 ∷ 19 ∷ []) $ free1 ! $ move ! (16 ∷ 17 ∷ []) $ free1 ! $ move ! (14 ∷ 15 ∷ []) $ free1 ! $ move ! (12 ∷ 13 ∷ []) $ free1 ! $
         move ! (0 ∷ 11 ∷ []) $ free1 ! $ move ! (8 ∷ 9 ∷ []) $ free1 ! $ move ! (6 ∷ 7 ∷ []) $ free1 ! $ move ! (4 ∷ 5 ∷ []) $ free1 ! $ free0 ! $
-        suffices ! _ (ends-at 𝓤 H A once.ended stayed (once.clauses 𝓤 H A at-mem run) W ((κs, qs, tt, x, at), tt) (LL.val B.the-type B′.the-laws (brought r (ws .1 .0))) (brought r (ws .1 .0)) (tt, (tt, (tt, (tt, tt)))) (tt, (tt, (tt, (tt, tt))))) $ says ! e $
+        suffices ! _ (ends-at 𝓤 H A once.ended stayed (once.clauses 𝓤 H A at-mem run) W here (LL.val B.the-type B′.the-laws (brought r (ws .1 .0))) (brought r (ws .1 .0)) (tt, (tt, (tt, (tt, tt)))) (tt, (tt, (tt, (tt, tt))))) $ says ! e $
         move ! (1 ∷ 0 ∷ []) $ join ! $ frame ! $ owned ! L.the-row (Is L.the-row) (LL.makes L.the-type L′.the-plain 𝓤 H A) h _ okh $
         -- [what the ledger passed owns; the image's; the frame's]
         group ! 3 $ use1 W (‵ (Passed κ₀ 1 κ₁ s v f (L.the-row .own h (mach h ∷ [])))) (passed κ₀ 1 κ₁ s v f 𝓤 H A W okv (L.the-row .own h (mach h ∷ []))) $
