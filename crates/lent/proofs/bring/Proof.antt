@@ -1,7 +1,6 @@
 -- `lent::bring`: a walk of its MIR, by hand. The borrow of the ledger is opened, the ledger is copied out and stepped by value, and the
 -- borrow is closed at the ledger that `step` leaves. All that the proof knows of `step` is that it meets its contract.
--- The slices are Copy: what each owns is had twice, once for the callee and once for the exit. The ledger, the event and what is told are plain
--- data: what they own is made anew.
+-- What is told and the ledger are plain data: what they own is made anew of the callee's answer.
 use mathlib.Core.Path.{refl, ap}
 use Prim.Native.Nat.{ℕ}
 use mathlib.Core.List.{List, [], _∷_}
@@ -73,13 +72,13 @@ module _ {M : Type 1} (𝓤 : URA M) (H : Heap 𝓤) (A : Atoms 𝓤) (W : Given
   abbrev here : walkOf 𝓤 H A bring.ended stayed (bring.clauses 𝓤 H A at-mem run) .Ghost
   here = (((κ₀, (κ₁, (κ₂, tt))), (q₀, (q₁, (q₂, tt))), tt, (s, (record { ptr = (b, o); name = γ; now = h }, (v, (f, tt)))), (machS s ∷ [], (vptr b o ∷ [], (machE v ∷ [], (machS f ∷ [], tt))))), tt)
 
-  -- what the loan owns at a ledger
-  abbrev Loan : Ledger → Fml
-  Loan g = MutRef (named 1) κ₁ L.the-row .own (record { ptr = (b, o); name = γ; now = g }) (vptr b o ∷ [])
-
   -- and the callee
   abbrev to : Step 𝓤 H A at-mem run .Ghost
   to = (((κ₀, (κ₂, tt)), (q₀, (q₂, tt)), tt, (s, (h, (v, (f, tt)))), (machS s ∷ [], (mach h ∷ [], (machE v ∷ [], (machS f ∷ [], tt))))), tt)
+
+  -- what the loan owns at a ledger
+  abbrev Loan : Ledger → Fml
+  Loan g = MutRef (named 1) κ₁ L.the-row .own (record { ptr = (b, o); name = γ; now = g }) (vptr b o ∷ [])
 
   -- of the callee's `ensured`, the clause alone: it has no `&mut`, so what is said of last values is dropped
   said : (r : Brought) → ent 𝓤 (ensured 𝓤 H A step.ended (step.clauses 𝓤 H A at-mem run) (to .0 .0) (to .0 .3) tt r) (fact 𝓤 (Brings (s .now) (h .cells) v (f .now) (r .told) (r .ledger .cells)))
