@@ -1,1 +1,1 @@
-pub mod Cell
+pub mod Held
