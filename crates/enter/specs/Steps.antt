@@ -1,5 +1,5 @@
 -- Steps 4 to 6, one definition each (document 01, "One frame, step by step").
-use mathlib.Core.Bool.{Bool, true, false, cond, not}
+use mathlib.Core.Bool.{Bool, false, cond, not}
 use mathlib.Core.List.{List}
 use Prim.Native.Nat.{ℕ}
 use lib.Dec.{eqb}

@@ -13,7 +13,6 @@ use Rattle.plan.specs.declared.Course.{Course}
 use Rattle.plan.specs.declared.Planned.{Planned}
 use Rattle.plan.specs.declared.Planned.the-variants.{Dropped, Goes}
 use Rattle.plan.specs.Laws.{Sane, Follows}
-use Rattle.judge.specs.declared.settle.Verdict.{Verdict}
 use Rattle.judge.specs.declared.settle.Verdict.the-variants.{Refused, Drop, Sent}
 use Rattle.judge.specs.Refusal.{refusalOf}
 use Rattle.judge.specs.Settle.{spentWith, settledBy, settledOf, heldAt, stored, Judged, judged, carriedOut}

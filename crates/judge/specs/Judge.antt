@@ -13,7 +13,7 @@ use Rattle.enter.specs.declared.Entered.{Entered}
 use Rattle.enter.specs.declared.Entered.the-variants as entered
 use Rattle.enter.specs.Enter.{enterOf}
 use Rattle.plan.specs.declared.Planned.{Planned}
-use Rattle.plan.specs.declared.Planned.the-variants.{Dropped, Goes}
+use Rattle.plan.specs.declared.Planned.the-variants.{Dropped}
 use Rattle.plan.specs.Plan.{planOf}
 use Rattle.judge.specs.declared.settle.Verdict.{Verdict}
 use Rattle.judge.specs.declared.settle.Verdict.the-variants.{Refused, Drop, Sent}

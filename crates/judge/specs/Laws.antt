@@ -2,10 +2,10 @@
 use mathlib.Core.Path.{_≡_, refl, sym, _∙_, ap, subst}
 use mathlib.Core.Bool.{Bool, true, false, cond}
 use mathlib.Core.List.{List}
-use Prim.Native.Nat.{ℕ, _+_, _<_, _≤_}
+use Prim.Native.Nat.{ℕ, _<_, _≤_}
 use native.Mathlib.Nat.{lt-of-lt-of-le}
 use native.Mathlib.Omega.{arith}
-use lib.Dec.{ltb, leb, eqb, lit≤}
+use lib.Dec.{ltb, leb, eqb}
 use lib.ListN.{length}
 use borrow.Author.Tests.{ltb-false, leb-false, eqb-true, eqb-false}
 use Rattle.laws.specs.Chain.{none-first, none-rest, zero-first, zero-rest, at-zero, not-zero}
@@ -13,7 +13,7 @@ use Rattle.image.specs.Layout.{imageIn}
 use Rattle.image.specs.Sound.{Sound}
 use Rattle.ledger.specs.Row.{units, credit, since, frames, drops, octets, dropped, last, many, cell}
 use Rattle.ledger.specs.Range.{latest, standing}
-use Rattle.ledger.specs.Laws.{other-part, cells, Counted, InRange, Stands, stands}
+use Rattle.ledger.specs.Laws.{cells, Counted, InRange, Stands, stands}
 use Rattle.spend.specs.declared.Counts.{Counts}
 use Rattle.spend.specs.declared.Spent.{Spent}
 use Rattle.frame.specs.Bytes.{octetsOf}
@@ -25,7 +25,7 @@ use Rattle.plan.specs.declared.Planned.{Planned}
 use Rattle.plan.specs.declared.Planned.the-variants.{Dropped, Goes}
 use Rattle.plan.specs.Laws.{Sane, Follows, follows}
 use Rattle.judge.specs.declared.settle.Verdict.{Verdict}
-use Rattle.judge.specs.declared.settle.Verdict.the-variants.{Refused, Drop, Sent}
+use Rattle.judge.specs.declared.settle.Verdict.the-variants.{Refused, Drop}
 use Rattle.judge.specs.declared.settle.Held.{Held}
 use Rattle.judge.specs.declared.settle.Settled.{Settled}
 use Rattle.judge.specs.Refusal.{mistimed, unjudged, refusalOf}

@@ -1,10 +1,10 @@
 -- What pins a judgement: every verdict notes the time, and noting it touches neither meters nor units.
-use mathlib.Core.Path.{_≡_, refl, sym, _∙_, ap}
+use mathlib.Core.Path.{_≡_, refl, _∙_, ap}
 use mathlib.Core.Bool.{Bool, cond}
 use mathlib.Core.List.{List}
 use Prim.Native.Nat.{ℕ, _+_, _<_}
 use lib.Dec.{eqb, lit≤}
-use lib.ListN.{length, length-set}
+use lib.ListN.{length}
 use borrow.Author.Tests.{ne-eqb}
 use Rattle.image.specs.Layout.{imageIn}
 use Rattle.image.specs.Loaded.{tooShort}

@@ -13,7 +13,7 @@ use Rattle.plan.specs.declared.Course.{Course}
 use Rattle.plan.specs.declared.Planned.{Planned}
 use Rattle.plan.specs.declared.Planned.the-variants.{Dropped, Goes}
 use Rattle.judge.specs.declared.settle.Verdict.{Verdict}
-use Rattle.judge.specs.declared.settle.Verdict.the-variants.{Refused, Drop, Sent}
+use Rattle.judge.specs.declared.settle.Verdict.the-variants.{Drop, Sent}
 use Rattle.judge.specs.declared.settle.Held.{Held}
 use Rattle.judge.specs.declared.settle.Settled.{Settled}
 

@@ -17,7 +17,6 @@ use Rattle.ledger.specs.Range.{latest, unitsOver, fullOf, creditOver, octetsOff
 use Rattle.ledger.specs.Laws.{cells, other-place, Counted, InRange}
 use Rattle.ledger.specs.Fresh.{freshOf}
 use Rattle.ledger.specs.Release.{releaseRefusal, givenTo, released, Releasable, releasable}
-use Rattle.spend.specs.Spend.{countedOf}
 use Rattle.spend.specs.Proved.{now-stored}
 use Rattle.frame.specs.Bytes.{octetsOf}
 use Rattle.plan.specs.declared.Course.{Course}

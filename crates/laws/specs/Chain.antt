@@ -97,13 +97,6 @@ of-eq a b r e h = sym e ∙ h
 pub of-ne : (a b r : ℕ) → r ≡ b → (r ≡ a → ⊥) → b ≡ a → ⊥
 of-ne a b r e h q = h (e ∙ q)
 
--- What a call answered, r, is what its definition says, s, and was matched as k: so what is said by cases of s is said of k, and what s has, k has.
-pub in-case : {A B : Type 0} (f : A → B) (r s k : A) → r ≡ s → r ≡ k → f k ≡ f s
-in-case f r s k e h = ap f (sym h ∙ e)
-
-pub carry : {A : Type 0} (P : A → Type 0) (r s k : A) → r ≡ s → r ≡ k → P s → P k
-carry P r s k e h p = subst P (sym e ∙ h) p
-
 -- the laws of a chain whose tests are all flags that calls handed over: fewer ways to try, so a longer chain
 pub ruleset flags = (hit, pass)
 

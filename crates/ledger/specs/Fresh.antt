@@ -16,7 +16,7 @@ use Rattle.image.specs.Fields.{partSpc}
 use Rattle.ledger.specs.declared.Answer.{Answer}
 use Rattle.ledger.specs.declared.Answer.the-variants.{Refused, Done}
 use Rattle.ledger.specs.Row.{units, credit, since, last, start, many, cellCount, put}
-use Rattle.ledger.specs.Range.{latest, unitsOver, fullOf, creditOver, tilesOff, timesOver, outOfRange, unloaded}
+use Rattle.ledger.specs.Range.{unitsOver, fullOf, creditOver, tilesOff, timesOver, outOfRange, unloaded}
 use Rattle.ledger.specs.Answers.{answerOf, numberOf}
 
 -- f of each index below n, in order

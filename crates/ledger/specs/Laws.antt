@@ -1,21 +1,19 @@
 -- What a store into one part leaves of the others, and what the tests behind 31, 30 and 39 tell once they have passed.
-use mathlib.Core.Path.{_≡_, refl, sym, _∙_, ap, subst}
-use mathlib.Core.Logic.{_⊎_, inl, inr, ⊎-elim}
-use mathlib.Core.Bool.{Bool, true, false, cond, _||_}
+use mathlib.Core.Path.{_≡_, refl, sym, _∙_, subst}
+use mathlib.Core.Bool.{Bool, true, false, cond}
 use mathlib.Core.List.{List, [], _∷_}
-use Prim.Native.Nat.{ℕ, zero, suc, _+_, _-_, _*_, _^_, _<_, _≤_}
-use native.Mathlib.Nat.{le-of-suc-le-suc, not-suc-le-zero, eq-or-lt-of-le, suc-ne-zero}
+use Prim.Native.Nat.{ℕ, _+_, _-_, _*_, _^_, _<_, _≤_}
 use native.Mathlib.Nat.{mod-lt}
 use native.Mathlib.Omega.{arith}
 use lib.Pow.{pow-pos}
 use lib.Dec.{ltb, leb, eqb}
 use lib.ListN.{length, getD, set, length-set}
 use lib.Seq.{getD-set-same, getD-set-other}
-use borrow.Author.Tests.{ltb-false, leb-true, eqb-true, eqb-false, eq-eqb, ne-eqb}
+use borrow.Author.Tests.{ltb-false, leb-true, eqb-true, eqb-false}
 use Rattle.laws.specs.Chain.{none-first, none-rest, zero-first, zero-rest}
 use Rattle.laws.specs.Scan.{none-at}
-use Rattle.image.specs.Layout.{imageWords, imageIn, countOf}
-use Rattle.image.specs.Fields.{partSpc, smax}
+use Rattle.image.specs.Layout.{imageWords, imageIn}
+use Rattle.image.specs.Fields.{partSpc}
 use Rattle.image.specs.Loaded.{tooShort, notLoaded}
 use Rattle.image.specs.Sound.{Sound, sound}
 use Rattle.ledger.specs.Row.{parts, units, credit, since, frames, drops, octets, dropped, last, many, cellCount, cell}

@@ -1,6 +1,6 @@
 -- What refuses a call before its own numbers are looked at: 31, 30 and 39 (document 01, "One frame, step by step"); 39 clause by clause, over all
 -- partitions, meters and tiles.
-use mathlib.Core.Bool.{Bool, true, false, cond}
+use mathlib.Core.Bool.{Bool, true, cond}
 use mathlib.Core.List.{List}
 use Prim.Native.Nat.{ℕ, _*_}
 use lib.Dec.{ltb, eqb}

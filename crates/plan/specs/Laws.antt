@@ -18,7 +18,7 @@ use Rattle.plan.specs.declared.Policed.the-variants.{Unmetered, TooLong,
 use Rattle.plan.specs.declared.Course.{Course}
 use Rattle.plan.specs.declared.Planned.{Planned}
 use Rattle.plan.specs.declared.Planned.the-variants.{Dropped, Goes}
-use Rattle.plan.specs.Police.{policerOf, meteredBy, policedBy, policedOf}
+use Rattle.plan.specs.Police.{policerOf, meteredBy, policedOf}
 use Rattle.plan.specs.Plan.{courseOf, byPolicer, planOf}
 
 -- a course by what was read for it

@@ -1,17 +1,17 @@
 -- Demand 1. No entry has a `requires`, so each always ends in an answer. What a refusal leaves: zero or untouched; and what is not loaded is not judged.
-use mathlib.Core.Path.{_≡_, refl, sym, _∙_, ap, subst}
+use mathlib.Core.Path.{_≡_, refl, sym, _∙_, ap}
 use mathlib.Core.Bool.{Bool, true, false, cond, not}
-use mathlib.Core.List.{List, [], _∷_, _++_}
-use Prim.Native.Nat.{ℕ, _%_, _<_, _≤_}
+use mathlib.Core.List.{List}
+use Prim.Native.Nat.{ℕ, _%_, _<_}
 use lib.Dec.{ltb, eqb}
-use lib.ListN.{length, drop, replicate}
+use lib.ListN.{length, replicate}
 use native.Mathlib.Nat.{le-of-suc-le-suc}
-use borrow.Author.Tests.{ne-eqb, le-ltb, lt-ltb}
+use borrow.Author.Tests.{ne-eqb, le-ltb}
 use Rattle.laws.specs.Chain.{hit, pass}
 use Rattle.image.specs.Layout.{imageWords, imageIn, imageOf}
 use Rattle.image.specs.Loaded.{tooShort, notLoaded}
 use Rattle.rules.specs.Rules.{ruled}
-use Rattle.stream.specs.Paper.{Framed, refused, cut, passed, ended, outcomeOf, framed, loaded, refusedWith, numbered, loadedWords, loadedBytes, into, asFound}
+use Rattle.stream.specs.Paper.{Framed, refused, cut, passed, outcomeOf, framed, loaded, refusedWith, loadedWords, loadedBytes, asFound}
 use Rattle.stream.specs.Machine.{wrote, untouched, damaged, outside}
 use Rattle.stream.specs.declared.Load.{Load}
 use Rattle.ledger.specs.Range.{outOfRange, unloaded, standing}

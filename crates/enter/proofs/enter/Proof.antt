@@ -1,5 +1,5 @@
 -- `enter::enter`: what steps 1 to 3 answer, and then.
-use mathlib.Core.Path.{_≡_, sym, ap, subst, _∙_}
+use mathlib.Core.Path.{sym, ap, subst, _∙_}
 use borrow.Author.Needs.{needs}
 use denote.Ref.{now}
 use Rattle.image.specs.Layout.{imageIn}

@@ -1,7 +1,6 @@
 -- `enter::place`: the entry that the search gives, or none.
 use borrow.Author.Needs.{needs}
-use mathlib.Core.Path.{_≡_, refl, sym, ap, _∙_}
-use Prim.Native.Nat.{ℕ}
+use mathlib.Core.Path.{refl, sym, ap, _∙_}
 use Rattle.laws.specs.Chain.{hit-eq, pass-eq}
 use Rattle.image.specs.Layout.{imageIn}
 use denote.Ref.{now}

@@ -1,5 +1,5 @@
 -- `judge::by_entry`: by the answer of 1 to 6.
-use mathlib.Core.Path.{_≡_, sym, ap, subst, _∙_}
+use mathlib.Core.Path.{sym, ap, subst, _∙_}
 use borrow.Author.Needs.{needs}
 use denote.Ref.{now}
 use Rattle.image.specs.Layout.{imageIn}

@@ -1,8 +1,6 @@
 -- `judge::judge`: refused with the row as it was; or the plan carried out, and noted.
-use mathlib.Core.Path.{_≡_, sym, _∙_}
 use native.Mathlib.Omega.{arith}
 use borrow.Author.Needs.{needs}
-use denote.Ref.{now}
 use Rattle.judge.specs.Laws.{admitted-as, plan-runs, still-countable, is-refused, is-judged}
 use Rattle.judge.proofs.judge.Statement.{statement}
 use Rattle.judge.proofs.judge.Tie as tie

@@ -1,8 +1,7 @@
 -- `judge::note`: the counts that the spending gives, and the time.
-use mathlib.Core.Path.{_≡_, ap}
+use mathlib.Core.Path.{ap}
 use borrow.Author.Needs.{needs}
 use denote.Ref.{now}
-use Rattle.spend.specs.declared.Counts.{Counts}
 use Rattle.judge.specs.Judge.{withCounts, noted}
 use Rattle.judge.proofs.note.Statement.{statement}
 use Rattle.judge.proofs.note.Tie as tie

@@ -1,5 +1,5 @@
 -- `plan::by_policer`: by the answer of 7 and 8; the fields that were read are the course's.
-use mathlib.Core.Path.{_≡_, sym, ap, _∙_}
+use mathlib.Core.Path.{sym, ap, _∙_}
 use borrow.Author.Needs.{needs}
 use Rattle.plan.specs.declared.Planned.the-variants.{Goes}
 use Rattle.plan.specs.Plan.{byPolicer}

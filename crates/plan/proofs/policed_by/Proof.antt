@@ -1,11 +1,11 @@
 -- `plan::policed_by`: 7 for entry k, then its meter's.
 use borrow.Author.Needs.{needs}
-use mathlib.Core.Path.{_≡_, sym, ap, _∙_}
-use Prim.Native.Nat.{ℕ, _<_}
+use mathlib.Core.Path.{sym, ap, _∙_}
+use Prim.Native.Nat.{ℕ}
 use borrow.Author.Tests.{leb-false}
 use denote.Ref.{now}
 use Rattle.laws.specs.Chain.{hit, pass}
-use Rattle.image.specs.Layout.{imageIn, Held}
+use Rattle.image.specs.Layout.{imageIn}
 use Rattle.plan.specs.Police.{meteredBy}
 use Rattle.plan.proofs.policed_by.Statement.{statement}
 use Rattle.plan.proofs.policed_by.Tie as tie

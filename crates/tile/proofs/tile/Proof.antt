@@ -1,6 +1,6 @@
 -- `tile::tile`: 31, 33, not-loaded, 39, then the tile.
 use borrow.Author.Needs.{needs}
-use mathlib.Core.Path.{_≡_, refl, sym, ap, subst, _∙_}
+use mathlib.Core.Path.{sym, ap, _∙_}
 use denote.Ref.{now}
 use Rattle.laws.specs.Chain.{hit, pass, hit-lt, pass-lt}
 use Rattle.image.specs.Sound.{sound}

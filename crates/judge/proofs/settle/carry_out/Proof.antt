@@ -1,5 +1,5 @@
 -- `judge::settle::carry_out`: by the plan's case.
-use mathlib.Core.Path.{_≡_, subst}
+use mathlib.Core.Path.{subst}
 use borrow.Author.Needs.{needs}
 use Rattle.judge.specs.Laws.{RunsAll, carries-as, drop-carries}
 use Rattle.judge.proofs.settle.carry_out.Statement.{statement}

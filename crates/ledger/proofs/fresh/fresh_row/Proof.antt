@@ -1,5 +1,5 @@
 -- `ledger::fresh::fresh_row`: the partitions and then the meters that a loop has passed are filled; every other cell is 0.
-use mathlib.Core.Path.{_≡_, sym, subst}
+use mathlib.Core.Path.{sym, subst}
 use Prim.Native.Nat.{ℕ, _+_, _-_, _≤_, zero-le}
 use native.Mathlib.Omega.{arith}
 use borrow.Author.Needs.{needs}

@@ -1,5 +1,4 @@
 -- `ledger::range::standing`: 31 and 30, then 39.
-use mathlib.Core.Path.{refl}
 use borrow.Author.Needs.{needs}
 use Rattle.laws.specs.Chain.{flags, at-zero, not-zero}
 use Rattle.ledger.specs.Laws.{loaded-as}

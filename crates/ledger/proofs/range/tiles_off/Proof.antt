@@ -1,10 +1,8 @@
 -- `ledger::range::tiles_off`: no tile that the loop has passed has counts that no frames give.
 use mathlib.Core.Path.{_≡_, refl, sym, _∙_}
-use mathlib.Core.Bool.{Bool, false}
-use mathlib.Core.List.{List}
-use Prim.Native.Nat.{ℕ, _-_, _≤_, _<_}
+use mathlib.Core.Bool.{false}
+use Prim.Native.Nat.{_-_, _≤_}
 use native.Mathlib.Omega.{arith}
-use lib.Dec.{ltb}
 use borrow.Author.Needs.{needs}
 use Rattle.laws.specs.Scan.{some-below, some-none, some-not, some-found, some-end}
 use Rattle.ledger.specs.Row.{frames, drops, octets, dropped, cell}

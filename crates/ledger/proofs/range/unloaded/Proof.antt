@@ -1,6 +1,5 @@
 -- `ledger::range::unloaded`: 31, then 30.
 use borrow.Author.Needs.{needs}
-use denote.Ref.{now}
 use Rattle.laws.specs.Chain.{flags}
 use Rattle.ledger.specs.Laws.{long-enough}
 use Rattle.ledger.specs.Range.{unloaded}

@@ -1,7 +1,6 @@
 -- `ledger::units::unreleased`: 36, then 37.
-use mathlib.Core.Path.{refl}
 use borrow.Author.Needs.{needs}
-use Rattle.laws.specs.Chain.{chain, carried, hit-le, pass-le, pass-lt}
+use Rattle.laws.specs.Chain.{chain, carried}
 use Rattle.ledger.proofs.units.unreleased.Statement.{statement}
 use Rattle.ledger.proofs.units.unreleased.Tie as tie
 

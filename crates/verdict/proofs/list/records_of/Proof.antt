@@ -1,5 +1,5 @@
 -- `verdict::list::records_of`: each record's end is past its start, so what is left of the list falls.
-use Prim.Native.Nat.{ℕ, _-_}
+use Prim.Native.Nat.{_-_}
 use lib.ListN.{length}
 use borrow.Author.Needs.{needs}
 use Rattle.records.specs.Promises.{steps}
