@@ -13,10 +13,11 @@ use Rattle.plan.specs.declared.Course.{Course}
 use Rattle.plan.specs.declared.Planned.{Planned}
 use Rattle.plan.specs.declared.Planned.the-variants.{Dropped, Goes}
 use Rattle.plan.specs.Laws.{Sane, Follows}
-use Rattle.judge.specs.declared.settle.Verdict.the-variants.{Refused, Drop, Sent}
+use Rattle.settle.specs.declared.Verdict.the-variants.{Refused, Drop, Sent}
+use Rattle.settle.specs.Settle.{spentWith, settledBy, settledOf, heldAt, stored, Judged, judged, carriedOut}
+use Rattle.settle.specs.Note.{noted}
 use Rattle.judge.specs.Refusal.{refusalOf}
-use Rattle.judge.specs.Settle.{spentWith, settledBy, settledOf, heldAt, stored, Judged, judged, carriedOut}
-use Rattle.judge.specs.Judge.{noted, planFor, notedOf, judgeOf}
+use Rattle.judge.specs.Judge.{planFor, notedOf, judgeOf}
 use Rattle.judge.specs.Laws.{Admitted, admitted, plan-follows}
 
 -- what a course spends of a row

@@ -1,13 +1,10 @@
 -- One frame (document 01, "One frame, step by step"): the verdict and the whole row afterwards, for every buffer, row, port, time and frame.
 use mathlib.Core.Path.{_≡_}
-use mathlib.Core.Bool.{Bool, true, false, cond}
+use mathlib.Core.Bool.{cond}
 use mathlib.Core.List.{List, [], _∷_}
 use Prim.Native.Nat.{ℕ}
 use lib.Dec.{eqb}
 use Rattle.image.specs.Layout.{imageIn}
-use Rattle.ledger.specs.Row.{frames, drops, octets, dropped, last, cell, put}
-use Rattle.spend.specs.declared.Counts.{Counts}
-use Rattle.spend.specs.Spend.{countedOf}
 use Rattle.frame.specs.Bytes.{octetsOf}
 use Rattle.enter.specs.declared.Entered.{Entered}
 use Rattle.enter.specs.declared.Entered.the-variants as entered
@@ -15,10 +12,11 @@ use Rattle.enter.specs.Enter.{enterOf}
 use Rattle.plan.specs.declared.Planned.{Planned}
 use Rattle.plan.specs.declared.Planned.the-variants.{Dropped}
 use Rattle.plan.specs.Plan.{planOf}
-use Rattle.judge.specs.declared.settle.Verdict.{Verdict}
-use Rattle.judge.specs.declared.settle.Verdict.the-variants.{Refused, Drop, Sent}
+use Rattle.settle.specs.declared.Verdict.{Verdict}
+use Rattle.settle.specs.declared.Verdict.the-variants.{Refused, Drop, Sent}
+use Rattle.settle.specs.Settle.{Judged, judged, carriedOut}
+use Rattle.settle.specs.Note.{isDrop, noted}
 use Rattle.judge.specs.Refusal.{refusalOf}
-use Rattle.judge.specs.Settle.{Judged, judged, carriedOut}
 
 -- document 01's number for each case: the refusal's, the drop's, 0 for sent
 abbrev pub numberOf : Verdict → ℕ
@@ -32,23 +30,6 @@ valuesOf (Refused n) = []
 valuesOf (Drop n) = []
 valuesOf (Sent s) =
     s .ports ∷ s .vlan ∷ s .priority ∷ s .tags ∷ s .queue0 ∷ s .queue1 ∷ s .queue2 ∷ s .queue3 ∷ s .queue4 ∷ []
-
-abbrev pub isDrop : Verdict → Bool
-isDrop (Refused n) = false
-isDrop (Drop n) = true
-isDrop (Sent s) = false
-
--- a port's counts in the row
-abbrev pub countsAt : List ℕ → ℕ → Counts
-countsAt g port = record { frames = cell g frames port; drops = cell g drops port; octets = cell g octets port; dropped = cell g dropped port }
-
-abbrev pub withCounts : List ℕ → ℕ → ℕ → Counts → List ℕ
-withCounts g port time n =
-    put (put (put (put (put g frames port (n .frames)) drops port (n .drops)) octets port (n .octets)) dropped port (n .dropped)) last 0 time
-
--- "every verdict sets the last time and the tile"
-unfoldable pub noted : List ℕ → ℕ → ℕ → ℕ → Bool → List ℕ
-noted g port time l drop = withCounts g port time (countedOf (countsAt g port) l drop)
 
 -- a frame's own plan: the drop of steps 1 to 6, or the plan on the VLAN that it came in on
 abbrev pub byEntry : List ℕ → ℕ → List ℕ → Entered → Planned

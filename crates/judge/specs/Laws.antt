@@ -1,4 +1,4 @@
--- What a frame that is not refused has, and what carrying out its plan leaves of it.
+-- What a frame that is not refused has, its plan, and its promise.
 use mathlib.Core.Path.{_≡_, refl, sym, _∙_, ap, subst}
 use mathlib.Core.Bool.{Bool, true, false, cond}
 use mathlib.Core.List.{List}
@@ -11,11 +11,9 @@ use borrow.Author.Tests.{ltb-false, leb-false, eqb-true, eqb-false}
 use Rattle.laws.specs.Chain.{none-first, none-rest, zero-first, zero-rest, at-zero, not-zero}
 use Rattle.image.specs.Layout.{imageIn}
 use Rattle.image.specs.Sound.{Sound}
-use Rattle.ledger.specs.Row.{units, credit, since, frames, drops, octets, dropped, last, many, cell}
+use Rattle.ledger.specs.Row.{frames, last, many, cell}
 use Rattle.ledger.specs.Range.{latest, standing}
-use Rattle.ledger.specs.Laws.{cells, Counted, InRange, Stands, stands}
-use Rattle.spend.specs.declared.Counts.{Counts}
-use Rattle.spend.specs.declared.Spent.{Spent}
+use Rattle.ledger.specs.Laws.{InRange, Stands, stands}
 use Rattle.frame.specs.Bytes.{octetsOf}
 use Rattle.enter.specs.declared.Entered.{Entered}
 use Rattle.enter.specs.declared.Entered.the-variants as entered
@@ -24,20 +22,15 @@ use Rattle.plan.specs.declared.Course.{Course}
 use Rattle.plan.specs.declared.Planned.{Planned}
 use Rattle.plan.specs.declared.Planned.the-variants.{Dropped, Goes}
 use Rattle.plan.specs.Laws.{Sane, Follows, follows}
-use Rattle.judge.specs.declared.settle.Verdict.{Verdict}
-use Rattle.judge.specs.declared.settle.Verdict.the-variants.{Refused, Drop}
-use Rattle.judge.specs.declared.settle.Held.{Held}
-use Rattle.judge.specs.declared.settle.Settled.{Settled}
+use Rattle.settle.specs.declared.Verdict.{Verdict}
+use Rattle.settle.specs.declared.Verdict.the-variants.{Refused}
+use Rattle.settle.specs.Settle.{Judged, judged, carriedOut, Carries}
+use Rattle.settle.specs.Note.{isDrop, noted}
+use Rattle.settle.specs.Laws.{Countable, Runs, RunsAll}
 use Rattle.judge.specs.Refusal.{mistimed, unjudged, refusalOf}
-use Rattle.judge.specs.Settle.{spentWith, verdictOf, settledBy, settledOf, heldAt, stored, Judged, judged, carriedOut, Carries}
-use Rattle.judge.specs.Judge.{numberOf, valuesOf, isDrop, countsAt, noted, byEntry, planFor, notedOf, judgeOf, Judges}
+use Rattle.judge.specs.Judge.{numberOf, valuesOf, byEntry, planFor, notedOf, judgeOf, Judges}
 
 -- ---- what is admitted
-
--- one more frame can be counted at the port
-pub record Countable (g : List ℕ) (port : ℕ) : Type 0 where
-  pub tile : Counted (cell g frames port) (cell g drops port) (cell g octets port) (cell g dropped port)
-  pub room : cell g frames port < 4294967295
 
 pub record Admitted (buffer g : List ℕ) (port time : ℕ) (frame : List ℕ) : Type 0 where
   pub image : Sound buffer
@@ -87,17 +80,6 @@ admitted-as buffer g port time frame n e z = admitted buffer g port time frame (
 
 -- ---- a plan
 
--- what carrying out a course asks: its cells are there, and its numbers small enough
-pub record Runs (w : Course) : Type 0 where
-  pub meter : w .meter < many credit
-  pub smax : w .smax < 65536
-  pub rate : w .rate < 65536
-  pub partition : w .partition < many units
-
-abbrev pub RunsAll : Planned → Type 0
-RunsAll (Dropped n) = Unit {0}
-RunsAll (Goes w) = Runs w
-
 pub runs : (buffer : List ℕ) (w : Course) → Sound buffer → Sane (imageIn buffer) w → Runs w
 runs buffer w s f =
     record { meter = lt-of-lt-of-le (f .meter) (s .within .policers); smax = f .smax; rate = f .rate; partition = f .partition }
@@ -117,48 +99,6 @@ plan-runs buffer port frame p s e = subst RunsAll (sym e) (go (planFor (imageIn 
     go : (q : Planned) → Follows (imageIn buffer) q → RunsAll q
     go (Dropped n) f = tt
     go (Goes w) f = runs buffer w s f
-
--- ---- a course on the row
-
-pub settles-as : (w : Course) (h : Held) (time l : ℕ) (s : Spent) (v : Verdict) → s ≡ spentWith w h time l → v ≡ verdictOf (w .sending) (s .drop)
-    → _≡_ {A = Settled} (record { verdict = v; held = record { credit = s .credit; since = s .since; units = s .units } }) (settledOf w h time l)
-unfolding settledOf
-settles-as w h time l s v e q =
-    ap (λ (x : Verdict). record { verdict = x; held = record { credit = s .credit; since = s .since; units = s .units } }) q ∙ ap (settledBy w) e
-
--- what was settled on the cells that were loaded, and stored
-pub runs-as : (g : List ℕ) (time l : ℕ) (w : Course) (s : Settled) → s ≡ settledOf w (heldAt g w) time l → Carries g time l (Goes w) (s .verdict) (stored g w (s .held))
-runs-as g time l w s e = record { verdict = ap (λ (x : Settled). x .verdict) e; row = ap (λ (x : Settled). stored g w (x .held)) e }
-
--- a plan p that was matched
-pub carries-as : (g : List ℕ) (time l : ℕ) (p q : Planned) (r : Verdict) (after : List ℕ) → p ≡ q → Carries g time l q r after → Carries g time l p r after
-carries-as g time l p q r after e x = subst (λ (k : Planned). Carries g time l k r after) (sym e) x
-
-pub drop-carries : (g : List ℕ) (time l : ℕ) (n : ℕ) → Carries g time l (Dropped n) (Drop n) g
-drop-carries g time l n = record { verdict = refl; row = refl }
-
--- ---- what carrying it out leaves
-
--- the counts of every port stay
-pub counts-kept : (g : List ℕ) (w : Course) (h : Held) (port : ℕ) → w .meter < many credit → w .partition < many units → port < many frames
-    → countsAt (stored g w h) port ≡ countsAt g port
-counts-kept g w h port m p inside = simp cells
-
-countable-as : (a b : List ℕ) (port : ℕ) → countsAt a port ≡ countsAt b port → Countable b port → Countable a port
-countable-as a b port e c =
-    record {
-      tile = subst (λ (n : Counts). Counted (n .frames) (n .drops) (n .octets) (n .dropped)) (sym e) (c .tile);
-      room = subst (λ (n : Counts). n .frames < 4294967295) (sym e) (c .room);
-    }
-
-pub still-countable : (g : List ℕ) (time l : ℕ) (p : Planned) (r : Verdict) (after : List ℕ) (port : ℕ) → Carries g time l p r after → RunsAll p → port < many frames
-    → Countable g port
-    → Countable after port
-still-countable g time l p r after port x q inside c = countable-as after g port (ap (λ (z : List ℕ). countsAt z port) (x .row) ∙ go p q) c
-  where
-    go : (p : Planned) → RunsAll p → countsAt (carriedOut g time l p .row) port ≡ countsAt g port
-    go (Dropped n) q = refl
-    go (Goes w) q = counts-kept g w (settledOf w (heldAt g w) time l .held) port (q .meter) (q .partition) inside
 
 -- ---- the promise
 

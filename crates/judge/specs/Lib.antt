@@ -1,6 +1,5 @@
--- One frame: what refuses it, what its plan spends, its verdict, and the row afterwards.
+-- One frame: what refuses it, its plan, its verdict, and the row afterwards.
 pub mod Refusal
-pub mod Settle
 pub mod Judge
 pub mod Laws
 pub mod Cases

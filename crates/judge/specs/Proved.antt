@@ -1,56 +1,19 @@
--- What pins a judgement: every verdict notes the time, and noting it touches neither meters nor units.
-use mathlib.Core.Path.{_≡_, refl, _∙_, ap}
+-- What pins a judgement: a refused one changes nothing, and a buffer's rest has no part in it.
+use mathlib.Core.Path.{_≡_, _∙_, ap}
 use mathlib.Core.Bool.{Bool, cond}
 use mathlib.Core.List.{List}
-use Prim.Native.Nat.{ℕ, _+_, _<_}
-use lib.Dec.{eqb, lit≤}
-use lib.ListN.{length}
+use Prim.Native.Nat.{ℕ}
+use lib.Dec.{eqb}
 use borrow.Author.Tests.{ne-eqb}
 use Rattle.image.specs.Layout.{imageIn}
 use Rattle.image.specs.Loaded.{tooShort}
-use Rattle.ledger.specs.Row.{units, credit, since, frames, octets, last, many, cellCount, cell}
 use Rattle.ledger.specs.Range.{standing}
-use Rattle.ledger.specs.Laws.{cells}
 use Rattle.ledger.specs.Proved.{same-standing}
-use Rattle.spend.specs.Spend.{countedOf}
 use Rattle.frame.specs.Bytes.{octetsOf}
-use Rattle.plan.specs.declared.Course.{Course}
-use Rattle.judge.specs.declared.settle.Verdict.the-variants.{Refused}
+use Rattle.settle.specs.declared.Verdict.the-variants.{Refused}
+use Rattle.settle.specs.Settle.{Judged, judged, carriedOut}
 use Rattle.judge.specs.Refusal.{unjudged, refusalOf}
-use Rattle.judge.specs.Settle.{meterOf, heldAt, Judged, judged, carriedOut}
-use Rattle.judge.specs.Judge.{noted, planFor, notedOf, judgeOf}
-
--- "every verdict sets the last time and the tile"
-module _ (g : List ℕ) (port time l : ℕ) (drop : Bool) (all : length g ≡ cellCount) (inside : port < many frames) where
-  pub time-noted : cell (noted g port time l drop) last 0 ≡ time
-  unfolding noted
-  time-noted = let only : 0 < many last = lit≤ tt in simp (cells, all)
-
-  pub frame-counted : cell (noted g port time l drop) frames port ≡ cell g frames port + 1
-  unfolding noted countedOf
-  frame-counted = let only : 0 < many last = lit≤ tt in simp (cells, all)
-
-  pub octets-counted : cell (noted g port time l drop) octets port ≡ cell g octets port + l
-  unfolding noted countedOf
-  octets-counted = let only : 0 < many last = lit≤ tt in simp (cells, all)
-
--- what notes a verdict leaves meters and units as they are
-module _ (g : List ℕ) (port time l : ℕ) (drop : Bool) (inside : port < many frames) where
-  pub credit-kept : (m : ℕ) → m < many credit → cell (noted g port time l drop) credit m ≡ cell g credit m
-  unfolding noted
-  credit-kept m h = let only : 0 < many last = lit≤ tt in simp cells
-
-  pub since-kept : (m : ℕ) → m < many since → cell (noted g port time l drop) since m ≡ cell g since m
-  unfolding noted
-  since-kept m h = let only : 0 < many last = lit≤ tt in simp cells
-
-  pub units-kept : (j : ℕ) → j < many units → cell (noted g port time l drop) units j ≡ cell g units j
-  unfolding noted
-  units-kept j h = let only : 0 < many last = lit≤ tt in simp cells
-
--- elapsed is since the meter's own time, not the last time
-pub own-time : (g : List ℕ) (w : Course) → meterOf w (heldAt g w) .since ≡ cell g since (w .meter)
-own-time g w = refl
+use Rattle.judge.specs.Judge.{planFor, notedOf, judgeOf}
 
 -- "call refusals .. change nothing"
 pub refused-unchanged : (buffer g : List ℕ) (port time : ℕ) (frame : List ℕ) → (refusalOf buffer g port time frame ≡ 0 → ⊥)

@@ -1,19 +1,15 @@
 // One frame: refused, dropped with the step's number, or sent; the row is lent and left as the verdict leaves it.
-pub mod settle;
-
 use enter::Entered;
 use ledger::CELLS;
-use ledger::DROPPED;
-use ledger::DROPS;
 use ledger::FRAMES;
 use ledger::LAST;
-use ledger::OCTETS;
 use ledger::range::LATEST;
 use ledger::range::standing;
 use plan::Planned;
 use settle::Verdict;
 use settle::carry_out;
-use spend::Counts;
+use settle::note::is_drop;
+use settle::note::note;
 ghost use mathlib.Core.Path.{_≡_};
 ghost use Prim.Native.Nat.{_<_, _≤_};
 ghost use lib.ListN.{length};
@@ -21,8 +17,7 @@ ghost use Rattle.image.specs.Layout.{imageIn};
 ghost use Rattle.image.specs.Sound.{Sound};
 ghost use Rattle.enter.specs.Laws.{Through};
 ghost use Rattle.judge.specs.Refusal.{mistimed, unjudged, refusalOf};
-ghost use Rattle.judge.specs.Judge.{isDrop, noted, byEntry, planFor, Judges};
-ghost use Rattle.judge.specs.Laws.{Countable};
+ghost use Rattle.judge.specs.Judge.{byEntry, planFor, Judges};
 
 // 35 and 38: the most bytes of a frame, and the frames of a port at which no more are counted.
 const MOST_BYTES: usize = 4096;
@@ -93,39 +88,6 @@ fn plan_for(image: &[u32], port: usize, frame: &[u8]) -> Planned
 {
     let entered = enter::enter(image, port, frame);
     by_entry(image, port, frame, entered)
-}
-
-fn is_drop(verdict: Verdict) -> bool
-    ensures { λ r. ⌜ r ≡ isDrop verdict ⌝ }
-{
-    match verdict {
-        Verdict::Refused(_) => false,
-        Verdict::Drop(_) => true,
-        Verdict::Sent(_) => false,
-    }
-}
-
-// The last time and the port's counts after a verdict.
-fn note(row: &mut [u64; CELLS], port: usize, time: u64, octets: u64, drop: bool)
-    requires { ⌜ Countable (now row) port ⌝ }
-    requires { ⌜ (port < 5) × (octets < 65536) ⌝ }
-    ensures { λ r. ⌜ now (row .exit) ≡ noted (now (row .entry)) port time octets drop ⌝ }
-{
-    let n = spend::counted(
-        Counts {
-            frames: row[FRAMES + port],
-            drops: row[DROPS + port],
-            octets: row[OCTETS + port],
-            dropped: row[DROPPED + port],
-        },
-        octets,
-        drop,
-    );
-    row[FRAMES + port] = n.frames;
-    row[DROPS + port] = n.drops;
-    row[OCTETS + port] = n.octets;
-    row[DROPPED + port] = n.dropped;
-    row[LAST] = time;
 }
 
 // The verdict on a frame that came in at a port at a time in µs.

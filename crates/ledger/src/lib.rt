@@ -1,7 +1,5 @@
 // The ledger that is kept over a list of records: one row of numbers, lent to whoever brings it up to date. Where each part starts comes from this one list.
-pub mod fresh;
 pub mod range;
-pub mod units;
 
 pub const PARTITIONS: usize = 8;
 

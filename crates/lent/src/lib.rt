@@ -1,9 +1,9 @@
 // The ledger, lent by `&mut` and brought up to date by each record: one step by value for frames and releases, and the loan around it.
 use judge::judge;
-use judge::settle::Verdict;
 use ledger::Answer;
 use ledger::Ledger;
-use ledger::units::release;
+use release::release;
+use settle::Verdict;
 ghost use Rattle.lent.specs.Brings.{Brings};
 
 // A frame's port and time in µs, its bytes apart; a release of a partition.

@@ -15,17 +15,17 @@ use Rattle.stream.specs.Paper.{Framed, refused, cut, passed, outcomeOf, framed,
 use Rattle.stream.specs.Machine.{wrote, untouched, damaged, outside}
 use Rattle.stream.specs.declared.Load.{Load}
 use Rattle.ledger.specs.Range.{outOfRange, unloaded, standing}
-use Rattle.ledger.specs.Fresh.{freshOf, noLedger, freshened, Freshened, refused-everywhere}
+use Rattle.fresh.specs.Fresh.{freshOf, noLedger, freshened, Freshened, refused-everywhere}
 use Rattle.ledger.specs.declared.Answer.{Answer}
 use Rattle.ledger.specs.declared.Answer.the-variants as answer
-use Rattle.ledger.specs.Release.{releaseRefusal, givenTo, released, Released}
+use Rattle.release.specs.Release.{releaseRefusal, givenTo, released, Released}
 use Rattle.tile.specs.declared.shares.Tile.the-variants.{NotLoaded}
 use Rattle.tile.specs.declared.shares.Asked.the-variants.{Shown}
 use Rattle.tile.specs.Tiles.{askedOf}
-use Rattle.judge.specs.declared.settle.Verdict.{Verdict}
-use Rattle.judge.specs.declared.settle.Verdict.the-variants.{Refused}
+use Rattle.settle.specs.declared.Verdict.{Verdict}
+use Rattle.settle.specs.declared.Verdict.the-variants.{Refused}
 use Rattle.judge.specs.Refusal.{refusalOf}
-use Rattle.judge.specs.Settle.{Judged, judged}
+use Rattle.settle.specs.Settle.{Judged, judged}
 use Rattle.judge.specs.Judge.{judgeOf, Judges}
 use Rattle.judge.specs.Proved.{refused-unchanged}
 use Rattle.tailbow_c.specs.declared.frames.FlatVerdict.{FlatVerdict}

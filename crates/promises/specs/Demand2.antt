@@ -12,18 +12,20 @@ use Rattle.image.specs.Layout.{imageIn}
 use Rattle.ledger.specs.Row.{frames, drops, octets, dropped, last, start, many, cellCount}
 use Rattle.ledger.specs.Range.{outOfRange}
 use Rattle.ledger.specs.Laws.{cells, other-place}
-use Rattle.ledger.specs.Fresh.{freshOf}
-use Rattle.ledger.specs.Release.{releaseRefusal, givenTo, released, releasable}
+use Rattle.fresh.specs.Fresh.{freshOf}
+use Rattle.release.specs.Release.{releaseRefusal, givenTo, released, releasable}
 use Rattle.spend.specs.declared.Counts.{Counts}
 use Rattle.spend.specs.Spend.{countedOf}
 use Rattle.frame.specs.Bytes.{octetsOf}
 use Rattle.plan.specs.declared.Course.{Course}
 use Rattle.plan.specs.Laws.{Sane}
-use Rattle.judge.specs.declared.settle.Verdict.{Verdict}
-use Rattle.judge.specs.declared.settle.Verdict.the-variants.{Refused, Drop, Sent}
-use Rattle.judge.specs.Settle.{Judged}
-use Rattle.judge.specs.Judge.{countsAt, noted, judgeOf}
-use Rattle.judge.specs.Laws.{Admitted, runs, counts-kept}
+use Rattle.settle.specs.declared.Verdict.{Verdict}
+use Rattle.settle.specs.declared.Verdict.the-variants.{Refused, Drop, Sent}
+use Rattle.settle.specs.Settle.{Judged}
+use Rattle.settle.specs.Note.{countsAt, noted}
+use Rattle.settle.specs.Laws.{counts-kept}
+use Rattle.judge.specs.Judge.{judgeOf}
+use Rattle.judge.specs.Laws.{Admitted, runs}
 use Rattle.judge.specs.Cases.{rowAfter, by-cases}
 use Rattle.tile.specs.declared.shares.Tile.the-variants.{NoFrames}
 use Rattle.tile.specs.Tiles.{tileOf}

@@ -23,11 +23,11 @@ use Rattle.image.specs.Rows.{rowOf, room}
 use Rattle.stream.specs.Machine.{written}
 use Rattle.ledger.specs.declared.Answer.{Answer}
 use Rattle.ledger.specs.Answers.{answerOf}
-use Rattle.ledger.specs.Fresh.{freshOf}
-use Rattle.ledger.specs.Release.{releaseRefusal}
-use Rattle.ledger.specs.Proved.{same-refusal, same-release}
-use Rattle.judge.specs.declared.settle.Verdict.{Verdict}
-use Rattle.judge.specs.Settle.{Judged}
+use Rattle.fresh.specs.Fresh.{freshOf}
+use Rattle.release.specs.Release.{releaseRefusal}
+use Rattle.release.specs.Proved.{same-refusal, same-release}
+use Rattle.settle.specs.declared.Verdict.{Verdict}
+use Rattle.settle.specs.Settle.{Judged}
 use Rattle.judge.specs.Judge.{judgeOf}
 use Rattle.judge.specs.Proved.{same-judgement}
 use Rattle.tile.specs.declared.shares.Asked.{Asked}

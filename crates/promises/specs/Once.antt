@@ -8,10 +8,10 @@ use Rattle.stream.specs.declared.Load.{Load}
 use Rattle.loader.specs.Leaves.{Writes, Ends}
 use Rattle.loader.specs.declared.Wrote.{Wrote}
 use Rattle.ledger.specs.declared.Answer as ledger
-use Rattle.ledger.specs.Fresh.{Freshened}
-use Rattle.ledger.specs.Release.{Released}
-use Rattle.ledger.specs.Proved.{one-fresh, one-release}
-use Rattle.judge.specs.declared.settle.Verdict.{Verdict}
+use Rattle.fresh.specs.Fresh.{Freshened, one-fresh}
+use Rattle.release.specs.Release.{Released}
+use Rattle.release.specs.Proved.{one-release}
+use Rattle.settle.specs.declared.Verdict.{Verdict}
 use Rattle.judge.specs.Judge.{Judges}
 use Rattle.judge.specs.Laws.{one-judgement}
 use Rattle.tile.specs.declared.shares.Asked.{Asked}

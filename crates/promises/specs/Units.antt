@@ -14,8 +14,8 @@ use Rattle.image.specs.Layout.{imageIn}
 use Rattle.image.specs.Fields.{partSpc}
 use Rattle.ledger.specs.Row.{units, many, cellCount, cell, put}
 use Rattle.ledger.specs.Laws.{cells, other-place}
-use Rattle.ledger.specs.Fresh.{freshOf}
-use Rattle.ledger.specs.Release.{releaseRefusal, givenTo, released, releasable}
+use Rattle.fresh.specs.Fresh.{freshOf}
+use Rattle.release.specs.Release.{releaseRefusal, givenTo, released, releasable}
 use Rattle.spend.specs.declared.Meter.{Meter}
 use Rattle.spend.specs.declared.Spent.{Spent}
 use Rattle.spend.specs.Meter.{cost}
@@ -25,13 +25,14 @@ use Rattle.plan.specs.declared.Course.{Course}
 use Rattle.plan.specs.declared.Planned.{Planned}
 use Rattle.plan.specs.declared.Planned.the-variants.{Dropped, Goes}
 use Rattle.plan.specs.Laws.{Sane}
-use Rattle.judge.specs.declared.settle.Verdict.{Verdict}
-use Rattle.judge.specs.declared.settle.Verdict.the-variants.{Refused, Drop, Sent}
-use Rattle.judge.specs.Settle.{meterOf, heldAt, Judged}
-use Rattle.judge.specs.Judge.{noted, planFor, judgeOf}
+use Rattle.settle.specs.declared.Verdict.{Verdict}
+use Rattle.settle.specs.declared.Verdict.the-variants.{Refused, Drop, Sent}
+use Rattle.settle.specs.Settle.{meterOf, heldAt, Judged}
+use Rattle.settle.specs.Note.{noted}
+use Rattle.settle.specs.Proved.{units-kept}
+use Rattle.judge.specs.Judge.{planFor, judgeOf}
 use Rattle.judge.specs.Laws.{Admitted, runs}
 use Rattle.judge.specs.Cases.{spentAt, rowAfter, by-cases}
-use Rattle.judge.specs.Proved.{units-kept}
 use Rattle.kept.specs.Lists.{same-or-not}
 use Rattle.kept.specs.Fresh.{fresh-units}
 use Rattle.kept.specs.Kept.{Kept, fresh-kept}

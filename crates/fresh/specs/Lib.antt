@@ -1,0 +1,2 @@
+-- A fresh ledger: the row, what is left beside a refusal, and the promise.
+pub mod Fresh

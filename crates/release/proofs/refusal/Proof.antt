@@ -1,0 +1,17 @@
+-- `release::refusal`: what stands before every call, then 36 and 37.
+use borrow.Author.Needs.{needs}
+use Rattle.laws.specs.Chain.{at-zero, not-zero}
+use Rattle.ledger.specs.Laws.{sound-as}
+use Rattle.release.specs.Release.{releaseRefusal}
+use Rattle.release.proofs.refusal.Statement.{statement}
+use Rattle.release.proofs.refusal.Tie as tie
+
+pub refusal-spec : {M : Type 1} → statement M
+unfolding releaseRefusal
+refusal-spec =
+    tie.close
+    (tie.spec
+    (λ c κs. search needs)
+    (λ c. search (needs, not-zero))
+    (λ c κs. search (needs, sound-as))
+    (λ c. search (needs, at-zero)))

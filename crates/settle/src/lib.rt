@@ -1,0 +1,103 @@
+// Steps 9 to 11: on the few numbers that a course concerns, and on the row, of which those are loaded and stored. What is noted of a frame is
+// apart (`note`): what is sent beside it spends and is not noted.
+pub mod note;
+
+use ledger::CELLS;
+use ledger::CREDIT;
+use ledger::SINCE;
+use ledger::UNITS;
+use plan::Course;
+use plan::Planned;
+use ports::Sending;
+use spend::Meter;
+ghost use mathlib.Core.Path.{_≡_};
+ghost use Prim.Native.Nat.{_<_};
+ghost use Rattle.plan.specs.declared.Planned.the-variants.{Goes};
+ghost use Rattle.settle.specs.Settle.{verdictOf, settledOf, Carries};
+ghost use Rattle.settle.specs.Laws.{Runs, RunsAll};
+
+pub enum Verdict {
+    Refused(u32),
+    Drop(u32),
+    Sent(Sending),
+}
+
+// One meter's credit and time, and one partition's units.
+pub struct Held {
+    pub credit: u64,
+    pub since: u64,
+    pub units: u64,
+}
+
+// The verdict, and the cells as it leaves them.
+pub struct Settled {
+    pub verdict: Verdict,
+    pub held: Held,
+}
+
+fn verdict_of(sending: Sending, drop: u32) -> Verdict
+    ensures { λ r. ⌜ r ≡ verdictOf sending drop ⌝ }
+{
+    if drop == 0 {
+        return Verdict::Sent(sending);
+    }
+    Verdict::Drop(drop)
+}
+
+// Steps 9 to 11 on numbers.
+pub fn settle(course: Course, held: Held, time: u64, octets: u64) -> Settled
+    requires { ⌜ Runs course ⌝ }
+    requires { ⌜ octets < 65536 ⌝ }
+    ensures { λ r. ⌜ r ≡ settledOf course held time octets ⌝ }
+{
+    let sending = course.sending;
+    let m = Meter {
+        smax: course.smax,
+        rate: course.rate,
+        credit: held.credit,
+        since: held.since,
+    };
+    let s = spend::spend(m, time, held.units, octets, sending.ports);
+    let after = Held {
+        credit: s.credit,
+        since: s.since,
+        units: s.units,
+    };
+    Settled {
+        verdict: verdict_of(sending, s.drop),
+        held: after,
+    }
+}
+
+fn run(row: &mut [u64; CELLS], course: Course, time: u64, octets: u64) -> Verdict
+    requires { ⌜ Runs course ⌝ }
+    requires { ⌜ octets < 65536 ⌝ }
+    ensures { λ r. ⌜ Carries (now (row .entry)) time octets (Goes course) r (now (row .exit)) ⌝ }
+{
+    let meter = course.meter;
+    let partition = course.partition;
+    let held = Held {
+        credit: row[CREDIT + meter],
+        since: row[SINCE + meter],
+        units: row[UNITS + partition],
+    };
+    let s = settle(course, held, time, octets);
+    let after = s.held;
+    let verdict = s.verdict;
+    row[UNITS + partition] = after.units;
+    row[CREDIT + meter] = after.credit;
+    row[SINCE + meter] = after.since;
+    verdict
+}
+
+// A plan on the row: a drop spends nothing.
+pub fn carry_out(row: &mut [u64; CELLS], planned: Planned, time: u64, octets: u64) -> Verdict
+    requires { ⌜ RunsAll planned ⌝ }
+    requires { ⌜ octets < 65536 ⌝ }
+    ensures { λ r. ⌜ Carries (now (row .entry)) time octets planned r (now (row .exit)) ⌝ }
+{
+    match planned {
+        Planned::Dropped(drop) => Verdict::Drop(drop),
+        Planned::Goes(course) => run(row, course, time, octets),
+    }
+}
