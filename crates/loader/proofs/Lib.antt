@@ -1,4 +1,2 @@
--- Laws that several of the loader's proofs cite.
+-- Laws on one word and on what is left of a run, which `quick` and `whole` cite too.
 pub mod Laws
-pub mod Headers
-pub mod Data

@@ -5,8 +5,8 @@ use Prim.Native.Nat.{ℕ}
 use Rattle.stream.specs.Paper.{loadedWords, loadedBytes}
 use Rattle.stream.specs.declared.Answer.{Answer}
 use Rattle.stream.specs.declared.Load.{Load}
-use Rattle.loader.specs.Leaves.{Writes, Ends}
-use Rattle.loader.specs.declared.Wrote.{Wrote}
+use Rattle.states.specs.Leaves.{Writes, Ends}
+use Rattle.states.specs.declared.Wrote.{Wrote}
 use Rattle.ledger.specs.declared.Answer as ledger
 use Rattle.fresh.specs.Fresh.{Freshened, one-fresh}
 use Rattle.release.specs.Release.{Released}

@@ -126,7 +126,7 @@ fn heard(answer: Answer) -> Said {
 // Writes of 64 words until one answers otherwise than "more" or the file ends, which is 10. Every stream is answered within 32,182 words,
 // so the turns are never used up.
 fn send(fd: i32, image: &mut [u32]) -> u32 {
-    let mut load = loader::fresh();
+    let mut load = states::fresh();
     let mut turns: u32 = 1024;
     while 0 < turns {
         let mut bytes = [0u8; 256];

@@ -2,7 +2,8 @@
 use mathlib.Core.Path.{refl, _∙_, ap, subst}
 use borrow.Author.Needs.{needs}
 use denote.Ref.{now}
-use Rattle.loader.proofs.Laws.{so, at-phase}
+use Rattle.states.proofs.Laws.{so}
+use Rattle.loader.proofs.Laws.{at-phase}
 use Prim.Native.Nat.{ℕ}
 use Rattle.stream.specs.Machine.{at, headed, sized}
 use Rattle.stream.specs.Fine.{Roomy}

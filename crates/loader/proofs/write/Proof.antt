@@ -1,12 +1,17 @@
--- `loader::write`: 31, 30, 32, then the run.
-use mathlib.Core.Path.{refl, sym, _∙_, ap}
+-- `loader::write`: refused by its tests, or let by and run.
+use mathlib.Core.Path.{refl, sym, _∙_, ap, subst}
 use borrow.Author.Needs.{needs}
 use denote.Ref.{now}
-use Rattle.loader.proofs.Laws.{wrote-as, wrote-31, wrote-30, wrote-32, wrote-run, has-room}
-use Rattle.stream.specs.Machine.{answerOf}
-use Rattle.stream.specs.declared.Load.{Load}
+use Rattle.stream.specs.Machine.{Machine, run}
+use Rattle.stream.specs.Fine.{Fine}
+use Rattle.states.proofs.Laws.{so}
+use Rattle.placing.proofs.Writes.{LetBy, writes-refused, let-by, opened-fine, writes-run}
 use Rattle.loader.proofs.write.Statement.{statement}
 use Rattle.loader.proofs.write.Tie as tie
+
+-- none of the tests held
+passed : (c : tie.After-open-arg) → let a = c .before .before .before .before .before .before .args in LetBy (a .load) (now (a .image)) (now (a .words))
+passed c = let-by _ _ _ _ (c .before .before .write-refusal .ensures) (c .before .if1 .left)
 
 pub write-spec : {M : Type 1} → statement M
 write-spec =
@@ -14,14 +19,11 @@ write-spec =
     (tie.spec
     (λ c κs. search needs)
     (λ c. search needs)
-    (λ c. let a = c .before .before .before .before .before .args in wrote-as (a .load) (now (a .image)) (now (a .words)) _ _ _ (wrote-31 (a .load) (now (a .image)) (now (a .words)) (c .before .too-short .result) _ _ (c .before .too-short .ensures) refl refl (c .if1 .taken)) refl refl refl)
-    (λ c κs. has-room (now (c .before .before .before .before .before .before .args .image)) _ (c .before .before .too-short .ensures) (c .before .if1 .left))
-    (λ c. search needs)
-    (λ c. let a = c .before .before .before .before .before .before .before .before .args in wrote-as (a .load) (now (a .image)) (now (a .words)) _ _ _ (wrote-30 (a .load) (now (a .image)) (now (a .words)) (c .before .before .before .before .too-short .result) (c .before .damaged .result) _ (c .before .before .before .before .too-short .ensures) (c .before .damaged .ensures) refl (c .before .before .before .if1 .left) (c .if2 .taken)) refl refl refl)
+    (λ c. writes-refused _ _ _ _ _ (c .before .write-refusal .ensures) (c .if1 .taken) refl refl)
+    (λ c κs. passed c .whole)
+    (λ c κs. subst (λ (m : Machine). Fine m) (sym (c .before .before .before .«open» .ensures)) (opened-fine _ _ _ (passed (c .before .before .before .before))))
     (λ c κs. search needs)
-    (λ c. search needs)
-    (λ c. let a = c .before .before .before .before .before .before .before .before .before .before .args in wrote-as (a .load) (now (a .image)) (now (a .words)) _ _ _ (wrote-32 (a .load) (now (a .image)) (now (a .words)) (c .before .before .before .before .before .before .too-short .result) (c .before .before .before .damaged .result) (c .before .outside .result) (c .before .before .before .before .before .before .too-short .ensures) (c .before .before .before .damaged .ensures) (c .before .outside .ensures) (c .before .before .before .before .before .if1 .left) (c .before .before .if2 .left) (c .if3 .taken)) refl refl refl)
-    (λ c κs. (has-room (now (c .before .before .before .before .before .before .before .before .before .before .before .args .image)) _ (c .before .before .before .before .before .before .before .too-short .ensures) (c .before .before .before .before .before .before .if1 .left), sym (c .before .before .before .before .damaged .ensures) ∙ c .before .before .before .if2 .left))
-    (λ c κs. search needs)
-    (λ c. c .before .before .before .opened-run .kept .0)
-    (λ c. let a = c .before .before .before .before .before .before .before .before .before .before .before .before .before .before .before .args in wrote-as (a .load) (now (a .image)) (now (a .words)) _ _ _ (wrote-run (a .load) (now (a .image)) (now (a .words)) (c .before .before .before .before .before .before .before .before .before .before .before .too-short .result) (c .before .before .before .before .before .before .before .before .damaged .result) (c .before .before .before .before .before .before .outside .result) (c .before .before .before .before .before .before .before .before .before .before .before .too-short .ensures) (c .before .before .before .before .before .before .before .before .damaged .ensures) (c .before .before .before .before .before .before .outside .ensures) (c .before .before .before .before .before .before .before .before .before .before .if1 .left) (c .before .before .before .before .before .before .before .if2 .left) (c .before .before .before .before .before .if3 .left)) (c .answer-of .ensures ∙ ap (λ (l : Load). answerOf (l .phase)) (c .before .before .before .opened-run .ensures .state)) (c .before .before .before .opened-run .ensures .state) (c .before .before .before .opened-run .ensures .kept)))
+    (λ c. c .before .before .before .run .kept .0 ∙ c .before .before .before .before .before .before .before .«open» .kept .0)
+    (λ c. let o = c .before .before .before .before .before .before .before in
+    let a = o .before .before .before .before .before .before .before .args in
+    writes-run _ _ _ _ _ (passed (o .before)) (c .answer-of .ensures) (so (ap (λ (m : Machine). run m (now (a .words))) (o .«open» .ensures)) (c .before .before .before .run .ensures))))

@@ -5,7 +5,7 @@ use Rattle.verdict.proofs.file.send.Statement.{statement}
 use Rattle.verdict.proofs.file.send.Tie as tie
 use Rattle.verdict.proofs.file.send.Reads as reads
 use Rattle.verdict.proofs.file.send.Lts as lts
-use Rattle.loader.proofs.fresh.Reads as fresh-reads
+use Rattle.states.proofs.fresh.Reads as fresh-reads
 use Rattle.loader.proofs.write.Reads as write-reads
 use Rattle.verdict.proofs.file.at_most.Reads as at-most-reads
 use Rattle.verdict.proofs.file.fill.Reads as fill-reads

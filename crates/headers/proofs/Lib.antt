@@ -1,0 +1,3 @@
+-- Laws that several of these proofs cite.
+pub mod Laws
+pub mod Headers

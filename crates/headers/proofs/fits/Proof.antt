@@ -1,0 +1,53 @@
+-- `headers::fits`: 5, then 6, then the table.
+use mathlib.Core.Path.{_≡_, _∙_, ap}
+use mathlib.Core.List.{List}
+use Prim.Native.Nat.{ℕ}
+use native.Mathlib.Nat.{div-le-self}
+use native.Mathlib.Omega.{arith}
+use borrow.Author.Needs.{needs}
+use denote.Ref.{now}
+use Rattle.image.specs.Tables.{indexOf}
+use Rattle.image.specs.declared.tables.Table.{Table}
+use Rattle.stream.specs.Machine.{hadIn}
+use Rattle.headers.specs.Header.{headerOf}
+use Rattle.headers.specs.declared.Header.{Header}
+use Rattle.headers.proofs.Headers.{header-5, header-6, header-right}
+use Rattle.headers.proofs.fits.Statement.{statement}
+use Rattle.headers.proofs.fits.Tie as tie
+
+-- the count that was read is the table's
+counted : (t : Table) (buffer : List ℕ) (i had n : ℕ) (h : Header) → i ≡ indexOf t → had ≡ hadIn buffer i → h ≡ headerOf (indexOf t) n had
+    → h ≡ headerOf (indexOf t) n (hadIn buffer (indexOf t))
+counted t buffer i had n h e q p = p ∙ ap (λ (x : ℕ). headerOf (indexOf t) n x) (q ∙ ap (λ (x : ℕ). hadIn buffer x) e)
+
+returns-2 : tie.Need-returns-2
+returns-2 c =
+    let b = c .before in
+    let s = b .before .before .before .before in
+    counted (s .before .before .args .table) _ (b .before .index-of .result) (b .count .result) (s .before .before .args .n) _ (b .before .index-of .ensures .0) (b .count .ensures .0)
+    (header-6 (s .before .before .args .table) (s .before .before .args .n) (b .count .result) (s .size-of .result) (s .size-of .ensures .0)
+    (b .before .before .most-of .result) (b .before .before .most-of .ensures .0) (b .before .before .before .if1 .left) (c .if2 .taken))
+
+returns-3 : tie.Need-returns-3
+returns-3 c =
+    let b = c .before in
+    let s = b .before .before .before .before in
+    counted (s .before .before .args .table) _ (b .before .index-of .result) (b .count .result) (s .before .before .args .n) _ (b .before .index-of .ensures .0) (b .count .ensures .0)
+    (header-right (s .before .before .args .table) (s .before .before .args .n) (b .count .result) (s .size-of .result) (s .size-of .ensures .0)
+    (b .before .before .most-of .result) (b .before .before .most-of .ensures .0) (b .before .before .before .if1 .left) (c .if2 .left))
+
+pub fits-spec : {M : Type 1} → statement M
+fits-spec =
+    tie.close
+    (tie.spec
+    (λ c κs. search needs)
+    (λ c. search needs)
+    (λ c. let a = c .before .before .before .args in
+    header-5 (a .table) (a .n) (hadIn (now (a .image)) (indexOf (a .table))) (c .before .size-of .result) (c .before .size-of .ensures .0) (c .if1 .taken))
+    (λ c κs. search needs)
+    (λ c κs. search needs)
+    (λ c κs. search needs)
+    (λ c. search needs)
+    (λ c. omega (arith, div-le-self (c .before .before .before .before .before .before .args .n) (c .before .before .before .before .size-of .result)))
+    returns-2
+    returns-3)

@@ -1,0 +1,2 @@
+-- What a block's header comes to.
+pub mod Header

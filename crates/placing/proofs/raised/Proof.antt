@@ -1,0 +1,36 @@
+-- `placing::raised`: what 30 asked keeps the count within its limit.
+use Prim.Native.Nat.{_≤_, _+_, _/_}
+use native.Mathlib.Nat.{le-trans}
+use native.Mathlib.Omega.{arith}
+use borrow.Author.Needs.{needs}
+use denote.Ref.{now}
+use Rattle.placing.proofs.Laws.{raised-bound, raised-is, most-small}
+use Rattle.placing.proofs.raised.Statement.{statement}
+use Rattle.placing.proofs.raised.Tie as tie
+
+bound : (c : tie.After-count) → c .count .result + c .before .before .before .before .args .placed / c .before .before .size-of .result ≤ 4096
+bound c =
+    let a = c .before .before .before .before in
+    le-trans
+    (raised-bound (a .args .table) (now (a .args .image)) _ (c .before .index-of .result) _ (c .before .before .size-of .ensures .0)
+    (c .before .index-of .ensures .0)
+    (c .count .ensures .0)
+    _
+    (a .pre .1))
+    (most-small (a .args .table))
+
+pub raised-spec : {M : Type 1} → statement M
+raised-spec =
+    tie.close
+    (tie.spec
+    (λ c κs. search needs)
+    (λ c κs. search needs)
+    (λ c κs. search needs)
+    (λ c. search needs)
+    (λ c. record { fits = omega (arith, bound c) })
+    (λ c. record { fits = omega (arith, bound c) })
+    (λ c. let a = c .before .before .before .before in
+    raised-is (a .args .table) (now (a .args .image)) _ (c .before .index-of .result) _ (c .before .before .size-of .ensures .0)
+    (c .before .index-of .ensures .0)
+    (c .count .ensures .0)
+    _))

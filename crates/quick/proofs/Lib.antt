@@ -1,0 +1,2 @@
+-- Laws on runs in parts, which `whole` cites too.
+pub mod Laws

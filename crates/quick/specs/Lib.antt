@@ -1,0 +1,2 @@
+-- What a part of a run leaves.
+pub mod Takes

@@ -1,0 +1,2 @@
+-- What every way of loading promises, over the forms of `stream`.
+pub mod Leaves

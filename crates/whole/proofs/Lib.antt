@@ -1,0 +1,2 @@
+-- Laws that several of these proofs cite.
+pub mod Laws

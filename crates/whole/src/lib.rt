@@ -1,0 +1,204 @@
+// Whole loads, of words and of bytes. The long tables are made for them alone, so they stand apart from the writes.
+use crc::Both;
+use quick::Took;
+use stream::Answer;
+use stream::Load;
+use stream::Phase;
+ghost use mathlib.Core.Path.{_≡_};
+ghost use Prim.Native.Nat.{_+_, _<_, _≤_};
+ghost use lib.ListN.{length};
+ghost use Rattle.crc_long.specs.Turn.{AreTables};
+ghost use Rattle.image.specs.Layout.{imageWords};
+ghost use Rattle.stream.specs.Bytes.{wordAt};
+ghost use Rattle.stream.specs.Fine.{Roomy, Fine};
+ghost use Rattle.stream.specs.Machine.{at, fresh, cleared, run};
+ghost use Rattle.stream.specs.Paper.{loadedWords, wordsOf, loadedBytes};
+ghost use Rattle.stream.specs.declared.Phase.the-variants.{Data};
+ghost use Rattle.states.specs.Leaves.{Leaves, Ends};
+ghost use Rattle.quick.specs.Takes.{Takes};
+
+// A run of data words, no more than are due, by the long tables.
+fn data_run_long(
+    image: &mut [u32],
+    load: Load,
+    words: &[u32],
+    first: &[u32; 1024],
+    second: &[u32; 1024],
+    third: &[u32; 1024],
+    last: &[u32; 1024],
+) -> Load
+    requires { ⌜ (imageWords ≤ length (now image)) × Roomy Data load (now image) ⌝ }
+    requires { ⌜ (0 < length (now words)) × (length (now words) ≤ load .due) × (load .phase ≡ Data) ⌝ }
+    requires { ⌜ AreTables (now first) (now second) (now third) (now last) ⌝ }
+    ensures { λ r. ⌜ Leaves (run (at load (now (image .entry))) (now (words .entry))) r (now (image .exit)) ⌝ }
+{
+    let sums = Both {
+        block: load.block,
+        stream: load.stream,
+    };
+    quick::stored(
+        image,
+        load,
+        words,
+        crc_long::words_in_both(first, second, third, last, sums, words),
+    )
+}
+
+// Some words of a whole load at once: inside a block those that are due, by the long tables, else four.
+fn some_long(
+    image: &mut [u32],
+    load: Load,
+    words: &[u32],
+    first: &[u32; 1024],
+    second: &[u32; 1024],
+    third: &[u32; 1024],
+    last: &[u32; 1024],
+) -> Took
+    requires { ⌜ Fine (at load (now image)) × (0 < length (now words)) ⌝ }
+    requires { ⌜ AreTables (now first) (now second) (now third) (now last) ⌝ }
+    ensures { λ r. ⌜ Takes load (now (image .entry)) (now (words .entry)) r (now (image .exit)) ⌝ }
+{
+    let phase = load.phase;
+    let due = load.due;
+    if let Phase::Data = phase {
+        if 0 < due {
+            let count = quick::least(due, words.len());
+            let next = data_run_long(image, load, &words[..count], first, second, third, last);
+            return Took { load: next, count };
+        }
+    }
+    // a block's checksum and the next one's header, by `run` and not by its `some`, which has one caller so that it becomes part of `run`
+    let count = quick::least(4, words.len());
+    let next = quick::run(image, load, &words[..count]);
+    Took { load: next, count }
+}
+
+// Words of a whole load, one after the other.
+fn run_long(
+    image: &mut [u32],
+    load: Load,
+    words: &[u32],
+    first: &[u32; 1024],
+    second: &[u32; 1024],
+    third: &[u32; 1024],
+    last: &[u32; 1024],
+) -> Load
+    requires { ⌜ Fine (at load (now image)) ⌝ }
+    requires { ⌜ AreTables (now first) (now second) (now third) (now last) ⌝ }
+    ensures { λ r. ⌜ Leaves (run (at load (now (image .entry))) (now (words .entry))) r (now (image .exit)) ⌝ }
+{
+    let mut state = load;
+    let mut i: usize = 0;
+    while i < words.len() {
+        let took = some_long(image, state, &words[i..], first, second, third, last);
+        state = took.load;
+        i += took.count;
+    }
+    state
+}
+
+// Words from a fresh load state, by the long tables.
+fn fresh_long(image: &mut [u32], words: &[u32]) -> Load
+    requires { ⌜ imageWords ≤ length (now image) ⌝ }
+    ensures { λ r. ⌜ Leaves (run (at fresh (cleared (now (image .entry)))) (now (words .entry))) r (now (image .exit)) ⌝ }
+{
+    states::clear(image);
+    run_long(
+        image,
+        states::fresh(),
+        words,
+        &crc_table::first(),
+        &crc_table::second(),
+        &crc_table::third(),
+        &crc_table::last(),
+    )
+}
+
+// The same by the short tables.
+fn fresh_short(image: &mut [u32], words: &[u32]) -> Load
+    requires { ⌜ imageWords ≤ length (now image) ⌝ }
+    ensures { λ r. ⌜ Leaves (run (at fresh (cleared (now (image .entry)))) (now (words .entry))) r (now (image .exit)) ⌝ }
+{
+    states::clear(image);
+    quick::run(image, states::fresh(), words)
+}
+
+// The same. Making the long tables pays from some thousands of words on.
+fn fresh_run(image: &mut [u32], words: &[u32]) -> Load
+    requires { ⌜ imageWords ≤ length (now image) ⌝ }
+    ensures { λ r. ⌜ Leaves (run (at fresh (cleared (now (image .entry)))) (now (words .entry))) r (now (image .exit)) ⌝ }
+{
+    if words.len() < 4096 {
+        return fresh_short(image, words);
+    }
+    fresh_long(image, words)
+}
+
+// A whole stream of words.
+pub fn load_words(image: &mut [u32], words: &[u32]) -> Answer
+    ensures { λ r. ⌜ Ends (loadedWords (now (image .entry)) (now (words .entry))) r (now (image .exit)) ⌝ }
+{
+    if image::counts::too_short(image) {
+        return Answer::Refused(31);
+    }
+    let end = fresh_run(image, words);
+    states::settle(image, end)
+}
+
+fn octet(x: u8) -> u32
+    ensures { λ r. ⌜ (r ≡ x) × (r < 256) ⌝ }
+{
+    x as u32
+}
+
+// The word whose most significant byte stands at i.
+fn word_at(bytes: &[u8], i: usize) -> u32
+    requires { ⌜ i + 4 ≤ length (now bytes) ⌝ }
+    ensures { λ r. ⌜ r ≡ wordAt (now (bytes .entry)) i ⌝ }
+{
+    ((octet(bytes[i]) * 256 + octet(bytes[i + 1])) * 256 + octet(bytes[i + 2])) * 256
+        + octet(bytes[i + 3])
+}
+
+// Bytes of 256 words at most: their words first, then these at once.
+fn chunk_run(image: &mut [u32], load: Load, bytes: &[u8]) -> Load
+    requires { ⌜ Fine (at load (now image)) × (length (now bytes) ≤ 1024) ⌝ }
+    ensures { λ r. ⌜ Leaves (run (at load (now (image .entry))) (wordsOf (now (bytes .entry)))) r (now (image .exit)) ⌝ }
+{
+    let mut words = [0; 256];
+    let mut k: usize = 0;
+    while 4 <= bytes.len() - 4 * k {
+        words[k] = word_at(bytes, 4 * k);
+        k += 1;
+    }
+    quick::run(image, load, &words[..k])
+}
+
+// Bytes from a fresh load state.
+fn bytes_run(image: &mut [u32], bytes: &[u8]) -> Load
+    requires { ⌜ imageWords ≤ length (now image) ⌝ }
+    ensures { λ r. ⌜ Leaves (run (at fresh (cleared (now (image .entry)))) (wordsOf (now (bytes .entry)))) r (now (image .exit)) ⌝ }
+{
+    states::clear(image);
+    let mut state = states::fresh();
+    let mut i: usize = 0;
+    while 1024 <= bytes.len() - i {
+        state = chunk_run(image, state, &bytes[i..i + 1024]);
+        i += 1024;
+    }
+    chunk_run(image, state, &bytes[i..])
+}
+
+// A whole stream of bytes.
+pub fn load_bytes(image: &mut [u32], bytes: &[u8]) -> Answer
+    ensures { λ r. ⌜ Ends (loadedBytes (now (image .entry)) (now (bytes .entry))) r (now (image .exit)) ⌝ }
+{
+    if image::counts::too_short(image) {
+        return Answer::Refused(31);
+    }
+    if bytes.len() % 4 != 0 {
+        return Answer::Refused(9);
+    }
+    let end = bytes_run(image, bytes);
+    states::settle(image, end)
+}
