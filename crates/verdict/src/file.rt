@@ -73,30 +73,16 @@ fn count_bytes(fd: i32) -> Counted {
     Counted::PastBudget
 }
 
-fn octet(x: u8) -> u32
-    ensures { λ r. ⌜ r < 256 ⌝ }
-{
+fn octet(x: u8) -> u32 {
     x as u32
 }
 
-// The word whose most significant byte stands at i; 0 past the end.
-fn word(bytes: &[u8], i: usize) -> u32 {
-    if bytes.len() < 4 {
-        return 0;
-    }
-    if bytes.len() - 4 < i {
-        return 0;
-    }
-    ((octet(bytes[i]) * 256 + octet(bytes[i + 1])) * 256 + octet(bytes[i + 2])) * 256
-        + octet(bytes[i + 3])
-}
-
-// The words of a write.
-fn words_of(bytes: &[u8]) -> [u32; 64] {
+// The words of a write, each from its four bytes, the most significant first.
+fn words_of(bytes: &[u8; 256]) -> [u32; 64] {
     let mut words = [0u32; 64];
     let mut i: usize = 0;
-    while i < 64 {
-        words[i] = word(bytes, i * 4);
+    while i < 256 {
+        words[i / 4] = words[i / 4] << 8 | octet(bytes[i]);
         i += 1;
     }
     words

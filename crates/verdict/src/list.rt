@@ -102,7 +102,7 @@ pub fn walk(image: &[u32]) {
         return;
     }
     let mut cells = [0u64; CELLS];
-    ledger::fresh::fresh_ledger(image, &mut cells);
+    fresh::fresh_ledger(image, &mut cells);
     let end = records_of(image, &list[..count], Ledger { cells }, filled.broken);
     tiles(image, &end.cells);
 }

@@ -1,84 +1,108 @@
-// What is printed, a function a kind of line. Numbers are decimal; shares are the 16 hexadecimal digits of a float's bits.
-use judge::settle::Verdict;
+// What is printed: a pattern for each kind of line, and one function that fills it in.
 use ledger::Answer;
 use lent::Told;
 use libc::STDOUT_FILENO;
 use ports::Sending;
+use settle::Verdict;
 use tile::shares::Asked;
 use tile::shares::Tile;
+ghost use Prim.Native.Nat.{_≤_};
+ghost use lib.ListN.{length};
+
+// '#' stands for a number in decimal, '@' for the 16 hexadecimal digits of a float's bits.
+const DECIMAL: u8 = 0x23;
+
+const BITS: u8 = 0x40;
 
 pub fn text(line: &[u8]) {
     io::write_all(STDOUT_FILENO, line);
 }
 
-fn number(n: u64) {
-    io::print_decimal(STDOUT_FILENO, n);
+// The place of a pattern's next mark; its length where none is left.
+fn mark_from(pattern: &[u8], at: usize) -> usize
+    requires { ⌜ at ≤ length (now pattern) ⌝ }
+    ensures { λ r. ⌜ (at ≤ r) × (r ≤ length (now (pattern .entry))) ⌝ }
+{
+    let mut i = at;
+    while i < pattern.len() {
+        if pattern[i] == DECIMAL {
+            return i;
+        }
+        if pattern[i] == BITS {
+            return i;
+        }
+        i += 1;
+    }
+    i
 }
 
-fn after(word: &[u8], n: u64) {
-    text(word);
-    number(n);
-}
-
-fn not_loaded(port: u64) {
-    after(b"tile ", port);
-    text(b" not-loaded\n");
+// A pattern with a number in the place of each mark.
+fn line(pattern: &[u8], numbers: &[u64]) {
+    let mut at: usize = 0;
+    let mut k: usize = 0;
+    while k < numbers.len() {
+        let mark = mark_from(pattern, at);
+        text(&pattern[at..mark]);
+        if pattern.len() <= mark {
+            return;
+        }
+        if pattern[mark] == BITS {
+            io::print_hex(STDOUT_FILENO, numbers[k], 16);
+        } else {
+            io::print_decimal(STDOUT_FILENO, numbers[k]);
+        }
+        at = mark + 1;
+        k += 1;
+    }
+    text(&pattern[at..]);
 }
 
 // A stream that is refused: no list is read, and no tile is loaded.
 pub fn config_refused(n: u32) {
-    after(b"config refused ", n as u64);
-    text(b"\n");
-    not_loaded(0);
-    not_loaded(1);
-    not_loaded(2);
-    not_loaded(3);
-    not_loaded(4);
+    line(
+        b"config refused #\ntile 0 not-loaded\ntile 1 not-loaded\ntile 2 not-loaded\ntile 3 not-loaded\ntile 4 not-loaded\n",
+        &[n as u64],
+    );
 }
 
-fn refused(n: u64) {
-    after(b"refused ", n);
-    text(b"\n");
+fn refused(n: u32) {
+    line(b"refused #\n", &[n as u64]);
 }
 
 pub fn list_refused(n: u64) {
-    after(b"list refused ", n);
-    text(b"\n");
+    line(b"list refused #\n", &[n]);
 }
 
 fn sent(record: u64, s: Sending) {
-    after(b"frame ", record);
-    after(b" sent ", s.ports);
-    after(b" vlan ", s.vlan);
-    after(b" prio ", s.priority);
-    after(b" tags ", s.tags);
-    after(b" queues ", s.queue0);
-    after(b" ", s.queue1);
-    after(b" ", s.queue2);
-    after(b" ", s.queue3);
-    after(b" ", s.queue4);
-    text(b"\n");
+    line(
+        b"frame # sent # vlan # prio # tags # queues # # # # #\n",
+        &[
+            record,
+            s.ports,
+            s.vlan,
+            s.priority,
+            s.tags,
+            s.queue0,
+            s.queue1,
+            s.queue2,
+            s.queue3,
+            s.queue4,
+        ],
+    );
 }
 
 fn verdict(record: u64, v: Verdict) {
     match v {
-        Verdict::Refused(n) => refused(n as u64),
-        Verdict::Drop(n) => {
-            after(b"frame ", record);
-            after(b" drop ", n as u64);
-            text(b"\n");
-        }
+        Verdict::Refused(n) => refused(n),
+        Verdict::Drop(n) => line(b"frame # drop #\n", &[record, n as u64]),
         Verdict::Sent(s) => sent(record, s),
     }
 }
 
 fn released(record: u64, a: Answer) {
     match a {
-        Answer::Refused(n) => refused(n as u64),
-        Answer::Done => {
-            after(b"release ", record);
-            text(b" ok\n");
-        }
+        Answer::Refused(n) => refused(n),
+        Answer::Done => line(b"release # ok\n", &[record]),
     }
 }
 
@@ -89,31 +113,26 @@ pub fn told(record: u64, t: Told) {
     }
 }
 
-fn shares(port: u64, frames: u64, drops: u64, share: f64, octets: f64) {
-    after(b"tile ", port);
-    after(b" frames ", frames);
-    after(b" drops ", drops);
-    text(b" share ");
-    io::print_hex(STDOUT_FILENO, tile::shares::bits(share), 16);
-    text(b" octets ");
-    io::print_hex(STDOUT_FILENO, tile::shares::bits(octets), 16);
-    text(b"\n");
+fn shown(port: u64, frames: u64, drops: u64, tile: Tile) {
+    match tile {
+        Tile::NotLoaded => line(b"tile # not-loaded\n", &[port]),
+        Tile::NoFrames => line(b"tile # no-frames\n", &[port]),
+        Tile::Shares(share, octets) => line(
+            b"tile # frames # drops # share @ octets @\n",
+            &[
+                port,
+                frames,
+                drops,
+                tile::shares::bits(share),
+                tile::shares::bits(octets),
+            ],
+        ),
+    }
 }
 
 pub fn tile_line(port: u64, frames: u64, drops: u64, asked: Asked) {
     match asked {
-        Asked::Refused(n) => {
-            after(b"tile ", port);
-            after(b" refused ", n as u64);
-            text(b"\n");
-        }
-        Asked::Shown(t) => match t {
-            Tile::NotLoaded => not_loaded(port),
-            Tile::NoFrames => {
-                after(b"tile ", port);
-                text(b" no-frames\n");
-            }
-            Tile::Shares(share, octets) => shares(port, frames, drops, share, octets),
-        },
+        Asked::Refused(n) => line(b"tile # refused #\n", &[port, n as u64]),
+        Asked::Shown(tile) => shown(port, frames, drops, tile),
     }
 }
