@@ -34,24 +34,6 @@ fn others(
     look(second, w) ^ look(third, x) ^ look(last, y)
 }
 
-// Four words go in.
-fn turn(
-    first: &[u32; 1024],
-    second: &[u32; 1024],
-    third: &[u32; 1024],
-    last: &[u32; 1024],
-    r: u32,
-    v: u32,
-    w: u32,
-    x: u32,
-    y: u32,
-) -> u32
-    requires { ⌜ AreTables (now first) (now second) (now third) (now last) ⌝ }
-    ensures { λ z. ⌜ z ≡ wordsIn r (v ∷ w ∷ x ∷ y ∷ []) ⌝ }
-{
-    look(first, r ^ v) ^ others(second, third, last, w, x, y)
-}
-
 // Four words go into both.
 fn turn_both(
     first: &[u32; 1024],
@@ -72,37 +54,6 @@ fn turn_both(
         block: look(first, both.block ^ v) ^ shared,
         stream: look(first, both.stream ^ v) ^ shared,
     }
-}
-
-// Words go in.
-pub fn words_in(
-    first: &[u32; 1024],
-    second: &[u32; 1024],
-    third: &[u32; 1024],
-    last: &[u32; 1024],
-    r: u32,
-    words: &[u32],
-) -> u32
-    requires { ⌜ AreTables (now first) (now second) (now third) (now last) ⌝ }
-    ensures { λ z. ⌜ z ≡ wordsIn r (now (words .entry)) ⌝ }
-{
-    let mut x = r;
-    let mut i = 0;
-    while 4 <= words.len() - i {
-        x = turn(
-            first,
-            second,
-            third,
-            last,
-            x,
-            words[i],
-            words[i + 1],
-            words[i + 2],
-            words[i + 3],
-        );
-        i += 4;
-    }
-    crc::words_in(x, &words[i..])
 }
 
 // Words go into both.

@@ -1,4 +1,2 @@
--- CRC-32 over short runs: a register together with itself two words later, tables of it, and what a word leaves by them.
-pub mod Twice
-pub mod Arm
+-- CRC-32 over short runs: what a word leaves by the tables of two words, and what four words leave.
 pub mod Turn

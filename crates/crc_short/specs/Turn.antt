@@ -9,7 +9,7 @@ use Rattle.crc.specs.Crc.{bitsOut}
 use Rattle.crc.specs.Xor.{xor-assoc}
 use Rattle.crc.specs.Laws.{bitsOut-lt, bitsOut-add, bitsOut-bytes}
 use Rattle.crc.specs.Four.{rest}
-use Rattle.crc_short.specs.Twice.{twice, twice-linear}
+use Rattle.crc_short_bytes.specs.Twice.{twice, twice-linear}
 
 -- ---- a word's four bytes leave what the word leaves
 

@@ -1,16 +1,23 @@
-// CRC-32 over short runs of words, four words a turn, by tables that stand with the code: nothing is made first, and nothing is lent.
+// CRC-32 over short runs of words, four words a turn, by tables that stand with the code (crc_short_bytes): nothing is made first, and nothing
+// is lent.
 // The tables are those of two words. An entry holds in its low half what a byte leaves and in its high half the same two words later, so that
 // each table serves two words of a turn. A turn takes twenty lookups: eight for its second and last word and four for its third, which the
 // registers share, and four for its first word with each register.
 // The tables are matches, and a table is one load only where it has one caller in the whole program: hence the little loops.
-mod bytes;
-
 ghost use mathlib.Core.Path.{_≡_};
 ghost use mathlib.Core.List.{[], _∷_};
 ghost use Prim.Native.Nat.{_/_, _%_, _^_};
 ghost use Rattle.crc.specs.Crc.{bitsOut, wordsIn};
-ghost use Rattle.crc_short.specs.Twice.{twice};
+ghost use Rattle.crc_short_bytes.specs.Twice.{twice};
 use crc::Both;
+use crc_short_bytes::byte0;
+use crc_short_bytes::byte1;
+use crc_short_bytes::byte2;
+use crc_short_bytes::byte3;
+use crc_short_bytes::byte4;
+use crc_short_bytes::byte5;
+use crc_short_bytes::byte6;
+use crc_short_bytes::byte7;
 
 // What two words leave by the tables.
 struct Two {
@@ -29,14 +36,14 @@ struct Three {
 fn first(w: u32) -> u64
     ensures { λ r. ⌜ r ≡ twice (bitsOut 64 w) ⌝ }
 {
-    bytes::byte0(w) ^ bytes::byte1(w >> 8) ^ bytes::byte2(w >> 16) ^ bytes::byte3(w >> 24)
+    byte0(w) ^ byte1(w >> 8) ^ byte2(w >> 16) ^ byte3(w >> 24)
 }
 
 // What a word leaves when none follows it, and the same two words later.
 fn second(w: u32) -> u64
     ensures { λ r. ⌜ r ≡ twice (bitsOut 32 w) ⌝ }
 {
-    bytes::byte4(w) ^ bytes::byte5(w >> 8) ^ bytes::byte6(w >> 16) ^ bytes::byte7(w >> 24)
+    byte4(w) ^ byte5(w >> 8) ^ byte6(w >> 16) ^ byte7(w >> 24)
 }
 
 // What each of two words leaves by `second`.
@@ -115,15 +122,4 @@ pub fn words_in_both(both: Both, words: &[u32]) -> Both
         i += 4;
     }
     crc::words_in_both(x, &words[i..])
-}
-
-// Words go in. It runs both registers, so that the tables keep their one caller.
-pub fn words_in(r: u32, words: &[u32]) -> u32
-    ensures { λ x. ⌜ x ≡ wordsIn r (now (words .entry)) ⌝ }
-{
-    let both = Both {
-        block: r,
-        stream: r,
-    };
-    words_in_both(both, words).block
 }

@@ -1,5 +1,4 @@
 // Runs every CRC function over outside vectors and prints what each gives. The file stdout holds what other programs compute; vectors.py made it and says how.
-ghost use Rattle.crc_long.specs.Turn.{AreTables};
 use crc::Both;
 use libc::STDOUT_FILENO;
 
@@ -123,16 +122,19 @@ fn print(value: u32) {
     io::print_hex(STDOUT_FILENO, value as u64, 8);
 }
 
-fn print_line(name: &[u8], n: usize, value: u32) {
+fn begin_line(name: &[u8], n: usize) {
     io::write_all(STDOUT_FILENO, name);
     io::print_decimal(STDOUT_FILENO, n as u64);
+}
+
+fn print_line(name: &[u8], n: usize, value: u32) {
+    begin_line(name, n);
     print(value);
     io::write_all(STDOUT_FILENO, b"\n");
 }
 
 fn print_both(name: &[u8], n: usize, both: Both) {
-    io::write_all(STDOUT_FILENO, name);
-    io::print_decimal(STDOUT_FILENO, n as u64);
+    begin_line(name, n);
     print(crc::finish(both.block));
     print(crc::finish(both.stream));
     io::write_all(STDOUT_FILENO, b"\n");
@@ -149,25 +151,16 @@ fn run_bytes(bytes: &[u8]) {
     print_line(b"byte_in ", bytes.len(), crc::finish(r));
 }
 
-// A run of n words into one register, in every way.
-fn run_one(
-    first: &[u32; 1024],
-    second: &[u32; 1024],
-    third: &[u32; 1024],
-    last: &[u32; 1024],
-    words: &[u32],
-    n: usize,
-)
-    requires { ⌜ AreTables (now first) (now second) (now third) (now last) ⌝ }
-{
-    let long = crc_long::words_in(first, second, third, last, crc::START, words);
-    print_line(b"words_in ", n, crc::checksum(words));
-    print_line(b"long words_in ", n, crc::finish(long));
-    print_line(
-        b"short words_in ",
-        n,
-        crc::finish(crc_short::words_in(crc::START, words)),
-    );
+// Words into two registers by the tables of a long run.
+fn by_long(both: Both, words: &[u32]) -> Both {
+    crc_long::words_in_both(
+        &crc_table::first(),
+        &crc_table::second(),
+        &crc_table::third(),
+        &crc_table::last(),
+        both,
+        words,
+    )
 }
 
 // Words into two registers, one by one.
@@ -181,24 +174,35 @@ fn one_by_one(both: Both, words: &[u32]) -> Both {
     x
 }
 
+// A run of words into one register, and into two that begin alike.
+fn run_one(words: &[u32]) {
+    let both = Both {
+        block: crc::START,
+        stream: crc::START,
+    };
+    let n = words.len();
+    print_line(b"words_in ", n, crc::checksum(words));
+    print_line(
+        b"long words_in ",
+        n,
+        crc::finish(by_long(both, words).block),
+    );
+    print_line(
+        b"short words_in ",
+        n,
+        crc::finish(crc_short::words_in_both(both, words).block),
+    );
+}
+
 // The same into two. The second register begins after the word 9E00030E, as a stream's does.
-fn run_two(
-    first: &[u32; 1024],
-    second: &[u32; 1024],
-    third: &[u32; 1024],
-    last: &[u32; 1024],
-    words: &[u32],
-    n: usize,
-)
-    requires { ⌜ AreTables (now first) (now second) (now third) (now last) ⌝ }
-{
+fn run_two(words: &[u32]) {
     let both = Both {
         block: crc::START,
         stream: crc::word_in(crc::START, 0x9E00_030E),
     };
-    let long = crc_long::words_in_both(first, second, third, last, both, words);
+    let n = words.len();
     print_both(b"words_in_both ", n, crc::words_in_both(both, words));
-    print_both(b"long words_in_both ", n, long);
+    print_both(b"long words_in_both ", n, by_long(both, words));
     print_both(
         b"short words_in_both ",
         n,
@@ -207,44 +211,23 @@ fn run_two(
     print_both(b"word words_in_both ", n, one_by_one(both, words));
 }
 
-// The first n words.
-fn run(
-    first: &[u32; 1024],
-    second: &[u32; 1024],
-    third: &[u32; 1024],
-    last: &[u32; 1024],
-    words: &[u32],
-    n: usize,
-)
-    requires { ⌜ AreTables (now first) (now second) (now third) (now last) ⌝ }
-{
+// The first n words, in every way.
+fn run(words: &[u32], n: usize) {
     if words.len() < n {
         return;
     }
     let part = &words[..n];
-    run_one(first, second, third, last, part, n);
-    run_two(first, second, third, last, part, n);
+    run_one(part);
+    run_two(part);
 }
 
-// Every length up to twenty, so that a run by four leaves over each number of words several times; long runs; and a whole stream.
-fn run_words(
-    first: &[u32; 1024],
-    second: &[u32; 1024],
-    third: &[u32; 1024],
-    last: &[u32; 1024],
-    words: &[u32],
-    stream: &[u32],
-)
-    requires { ⌜ AreTables (now first) (now second) (now third) (now last) ⌝ }
-{
+// Every length up to twenty, so that a run by four leaves over each number of words several times.
+fn run_short(words: &[u32]) {
     let mut n = 0;
     while n < 21 {
-        run(first, second, third, last, words, n);
+        run(words, n);
         n += 1;
     }
-    run(first, second, third, last, words, 999);
-    run(first, second, third, last, words, 1000);
-    run(first, second, third, last, stream, 111);
 }
 
 // A thousand words, each the last one times 1,664,525 and 1,013,904,223 more, modulo 2^32.
@@ -260,6 +243,17 @@ fn made() -> [u32; 1000] {
     words
 }
 
+// The checksum of the words from one place up to another.
+fn print_sum(name: &[u8], i: usize, words: &[u32], from: usize, to: usize) {
+    if words.len() < to {
+        return;
+    }
+    if to < from {
+        return;
+    }
+    print_line(name, i, crc::checksum(&words[from..to]));
+}
+
 // Each block's two checksums and the global one, computed from the words that they cover.
 fn run_stream(stream: &[u32]) {
     let mut i = 1;
@@ -269,27 +263,27 @@ fn run_stream(stream: &[u32]) {
         }
         let n = (stream[i + 1] % 16777216) as usize;
         if n == 0 {
-            print_line(b"global ", i, crc::checksum(&stream[..i + 2]));
+            print_sum(b"global ", i, stream, 0, i + 2);
             return;
         }
-        print_line(b"header ", i, crc::checksum(&stream[i..i + 2]));
+        print_sum(b"header ", i, stream, i, i + 2);
         i += 3;
         if stream.len() - i <= n {
             return;
         }
-        print_line(b"block ", i, crc::checksum(&stream[i..i + n]));
+        print_sum(b"block ", i, stream, i, i + n);
         i += n + 1;
     }
 }
 
+// Short runs, long ones, and a whole stream.
 fn main() {
-    let first = crc_table::first();
-    let second = crc_table::second();
-    let third = crc_table::third();
-    let last = crc_table::last();
     let words = made();
     let stream = STREAM;
     run_bytes(b"123456789");
     run_stream(&stream);
-    run_words(&first, &second, &third, &last, &words, &stream);
+    run_short(&words);
+    run(&words, 999);
+    run(&words, 1000);
+    run(&stream, 111);
 }

@@ -1,17 +1,20 @@
-// CRC-32 of one word, into both registers, by tables that stand with the code: nothing is made first, and nothing is lent.
+// CRC-32 of one word, into both registers, by tables that stand with the code (crc_word_bytes, crc_word_last): nothing is made first, and
+// nothing is lent.
 // A word's four lookups do not wait for each other, as those of the plain loop do. The two registers take turns in a loop,
 // since a table is one load only where it has one caller. It is for writes of one word; longer runs have their own crates.
-mod bytes;
-
 ghost use mathlib.Core.Path.{_≡_};
 ghost use Rattle.crc.specs.Crc.{bitsOut, wordIn};
 use crc::Both;
+use crc_word_bytes::byte0;
+use crc_word_bytes::byte1;
+use crc_word_bytes::byte2;
+use crc_word_last::byte3;
 
 // What a word leaves.
 fn leaves(w: u32) -> u32
     ensures { λ r. ⌜ r ≡ bitsOut 32 w ⌝ }
 {
-    bytes::byte0(w) ^ bytes::byte1(w >> 8) ^ bytes::byte2(w >> 16) ^ bytes::byte3(w >> 24)
+    byte0(w) ^ byte1(w >> 8) ^ byte2(w >> 16) ^ byte3(w >> 24)
 }
 
 // A word goes into both.

@@ -1,4 +1,4 @@
--- `crc_long::turn_both` meets its contract: each register as in `turn`, and what the other words leave once for both.
+-- `crc_long::turn_both` meets its contract: what the first word leaves with each register, and what the others leave, once for both.
 use Rattle.crc.specs.Four.{turned}
 use borrow.Author.Needs.{needs}
 use Rattle.crc_long.proofs.turn_both.Statement.{statement}

@@ -8,7 +8,7 @@ use native.Mathlib.Omega.{arith}
 use borrow.Author.Needs.{needs}
 use lib.ListN.{getD}
 use Rattle.crc.specs.Crc.{bitsOut}
-use Rattle.crc_short.specs.Twice.{twice}
+use Rattle.crc_short_bytes.specs.Twice.{twice}
 use Rattle.crc_short.proofs.firsts.Statement.{statement}
 use Rattle.crc_short.proofs.firsts.Tie as tie
 

@@ -1,9 +1,7 @@
 -- `crc_vectors::run_stream` is safe and ends: each block is tested to lie within the stream.
 use Prim.Native.Nat.{_-_}
-use mathlib.Core.Path.{_≡_, sym}
-use native.Mathlib.Omega.{arith}
+use mathlib.Core.Path.{_≡_}
 use lib.ListN.{length}
-use lib.Seq.{length-take-le}
 use borrow.Author.Needs.{needs}
 use Rattle.crc_vectors.proofs.run_stream.Statement.{statement}
 use Rattle.crc_vectors.proofs.run_stream.Tie as tie
@@ -13,9 +11,6 @@ Inv-loop stream i₀ t4 t5 t6 i = (length t4 ≡ 7) × (length t5 ≡ 7) × (len
 
 abbrev μ-loop : tie.MeasureT-loop
 μ-loop stream i₀ t4 t5 t6 i = length stream - i
-
-slice-aggregate-checksum : tie.Need-slice-aggregate-checksum Inv-loop μ-loop
-slice-aggregate-checksum c = sym (length-take-le _ _ (omega arith))
 
 pub run-stream-spec : {M : Type 1} → statement M
 run-stream-spec =
@@ -32,28 +27,16 @@ run-stream-spec =
     (λ c. search needs)
     (λ c. search needs)
     (λ c. search needs)
-    slice-aggregate-checksum
-    (λ c κs. search needs)
     (λ c κs. search needs)
     (λ c. search needs)
     (λ c. search needs)
     (λ c. search needs)
-    (λ c. search needs)
-    (λ c. search needs)
-    (λ c. search needs)
-    (λ c. search needs)
-    (λ c κs. search needs)
     (λ c κs. search needs)
     (λ c. search needs)
     (λ c. search needs)
     (λ c. search needs)
     (λ c. search needs)
     (λ c. search needs)
-    (λ c. search needs)
-    (λ c. search needs)
-    (λ c. search needs)
-    (λ c. search needs)
-    (λ c κs. search needs)
     (λ c κs. search needs)
     (λ c. search needs)
     (λ c. search needs)
