@@ -28,8 +28,9 @@ use Rattle.judge.specs.Refusal.{refusalOf}
 use Rattle.settle.specs.Settle.{Judged, judged}
 use Rattle.judge.specs.Judge.{judgeOf, Judges}
 use Rattle.judge.specs.Proved.{refused-unchanged}
-use Rattle.tailbow_c.specs.declared.frames.FlatVerdict.{FlatVerdict}
-use Rattle.tailbow_c.specs.Frames.{flatVerdict, FreshensFlat, JudgesFlat, ReleasesFlat}
+use Rattle.flat_answers.specs.declared.FlatVerdict.{FlatVerdict}
+use Rattle.flat_answers.specs.Answers.{flatVerdict}
+use Rattle.flat_frames.specs.Frames.{FreshensFlat, JudgesFlat, ReleasesFlat}
 
 -- "A refused load leaves the lent image all zero"
 zero-unless-loaded : (f : Framed) → (outcomeOf f .number ≡ 0 → ⊥) → outcomeOf f .image ≡ replicate imageWords 0

@@ -23,14 +23,15 @@ use Rattle.records.specs.declared.Record.{Record}
 use Rattle.records.specs.List.{standsAt}
 use Rattle.records.specs.Answer.{told}
 use Rattle.records.specs.Promises as records
-use Rattle.tailbow_c.specs.declared.frames.FlatVerdict.{FlatVerdict}
-use Rattle.tailbow_c.specs.declared.frames.FlatTile.{FlatTile}
-use Rattle.tailbow_c.specs.declared.lists.FlatRecord.{FlatRecord}
-use Rattle.tailbow_c.specs.Calls.{FreshLoad, WritesFlat, LoadsWords, LoadsBytes}
-use Rattle.tailbow_c.specs.Calls as loads
-use Rattle.tailbow_c.specs.Frames.{FreshensFlat, JudgesFlat, ReleasesFlat, TilesFlat}
-use Rattle.tailbow_c.specs.Frames as frames
-use Rattle.tailbow_c.specs.Lists.{RecordsFlat, one-record}
+use Rattle.flat_answers.specs.declared.FlatVerdict.{FlatVerdict}
+use Rattle.flat_answers.specs.declared.FlatTile.{FlatTile}
+use Rattle.flat_lists.specs.declared.FlatRecord.{FlatRecord}
+use Rattle.flat_states.specs.Flat.{FreshLoad, one-fresh-load}
+use Rattle.flat_loads.specs.Calls.{WritesFlat, LoadsWords, LoadsBytes}
+use Rattle.flat_loads.specs.Calls as loads
+use Rattle.flat_frames.specs.Frames.{FreshensFlat, JudgesFlat, ReleasesFlat, TilesFlat}
+use Rattle.flat_frames.specs.Frames as frames
+use Rattle.flat_lists.specs.Lists.{RecordsFlat, one-record}
 
 -- ---- the entries in Rattle
 
@@ -79,7 +80,7 @@ record-once = records.one-answer
 -- ---- the entries for C and Rust: the answer's numbers, and all that was lent
 
 pub c-fresh-load-once : (a b : List ℕ) → FreshLoad a → FreshLoad b → a ≡ b
-c-fresh-load-once = loads.one-fresh-load
+c-fresh-load-once = one-fresh-load
 
 pub c-write-once : (numbers buffer words : List ℕ) (r s : ℕ) (a b k m : List ℕ) → WritesFlat numbers buffer words r a k → WritesFlat numbers buffer words s b m
     → (r ≡ s) × (a ≡ b) × (k ≡ m)

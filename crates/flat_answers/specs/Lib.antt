@@ -1,0 +1,2 @@
+-- What a verdict and a tile are as numbers.
+pub mod Answers

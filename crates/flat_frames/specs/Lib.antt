@@ -1,0 +1,2 @@
+-- What is promised of a lent row.
+pub mod Frames

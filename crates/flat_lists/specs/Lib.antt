@@ -1,0 +1,2 @@
+-- A record of a frame list as numbers, and what is promised of a place.
+pub mod Lists

@@ -1,0 +1,2 @@
+-- Laws that several proofs of loads by numbers cite.
+pub mod Laws

@@ -1,0 +1,5 @@
+-- What is promised of loads by numbers.
+pub mod Calls
+pub mod Through
+pub mod Kept
+pub mod Data

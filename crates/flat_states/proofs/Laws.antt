@@ -1,0 +1,42 @@
+-- A number that no table has; a load state from its parts, and its numbers from theirs.
+use mathlib.Core.Path.{_≡_, sym}
+use mathlib.Core.List.{List, [], _∷_}
+use Prim.Native.Nat.{ℕ, _≤_}
+use native.Mathlib.Omega.{arith}
+use lib.ListN.{getD, List·getD-eq-default}
+use lib.Seq.{sets}
+use Rattle.image.specs.Tables.{indexOf, tables}
+use Rattle.image.specs.declared.tables.Table.{Table}
+use Rattle.image.specs.declared.tables.Table.the-variants.{AddressLookup}
+use Rattle.stream.specs.declared.Load.{Load}
+use Rattle.stream.specs.declared.Phase.{Phase}
+use Rattle.flat_states.specs.Flat.{low, high, joined, phaseNumber, toldIn, phaseOf, tableOf, loadIn, storedIn}
+
+-- ---- a number that no table has
+
+pub past-four : (n : ℕ) → (n ≡ 0 → ⊥) → (n ≡ 1 → ⊥) → (n ≡ 2 → ⊥) → (n ≡ 3 → ⊥) → (n ≡ 4 → ⊥) → 5 ≤ n
+past-four n a b c d e = omega arith
+
+pub no-table : (n : ℕ) → 5 ≤ n → (n ≡ 5 → ⊥) → (n ≡ 6 → ⊥) → (n ≡ 7 → ⊥) → (n ≡ 8 → ⊥) → AddressLookup ≡ tableOf n
+no-table n h a b c d = sym (List·getD-eq-default tables AddressLookup {n = n} (omega arith))
+
+-- ---- a state from its parts
+pub load-as : (c : List ℕ) (p : Phase) (t : Table) (told first second stream block : ℕ) → told ≡ high (getD c 0 0) → p ≡ phaseOf (low (getD c 0 0)) told
+    → t ≡ tableOf (low (getD c 1 0))
+    → first ≡ low (getD c 4 0)
+    → second ≡ high (getD c 4 0)
+    → stream ≡ low (getD c 5 0)
+    → block ≡ high (getD c 5 0)
+    → _≡_ {A = Load} (record { phase = p; table = t; placed = getD c 2 0; due = getD c 3 0; first = first; second = second; stream = stream; block = block }) (loadIn c)
+load-as c p t told first second stream block a b d e f g h = cc
+
+-- ---- and its numbers from theirs
+pub stored-as : (c : List ℕ) (l : Load) (told spare phase table a b d e : ℕ) → told ≡ high (getD c 0 0) → spare ≡ high (getD c 1 0)
+    → phase ≡ phaseNumber (l .phase)
+    → table ≡ indexOf (l .table)
+    → a ≡ joined phase (toldIn told (l .phase))
+    → b ≡ joined table spare
+    → d ≡ joined (l .first) (l .second)
+    → e ≡ joined (l .stream) (l .block)
+    → sets c 0 (a ∷ b ∷ l .placed ∷ l .due ∷ d ∷ e ∷ []) ≡ storedIn c l
+stored-as c l told spare phase table a b d e g h i j k m n o = cc

@@ -1,0 +1,2 @@
+-- Laws that the proofs of a load state's numbers cite.
+pub mod Laws

@@ -1,0 +1,42 @@
+-- `flat_states::store`: six stores.
+use mathlib.Core.Path.{_∙_, ap}
+use borrow.Author.Needs.{needs}
+use denote.Ref.{now}
+use Rattle.flat_states.specs.Flat.{joined}
+use Rattle.flat_states.proofs.Laws.{stored-as}
+use Rattle.flat_states.proofs.store.Statement.{statement}
+use Rattle.flat_states.proofs.store.Tie as tie
+
+pub store-spec : {M : Type 1} → statement M
+store-spec =
+    tie.close
+    (tie.spec
+    (λ c. search needs)
+    (λ c κs. search needs)
+    (λ c κs. search needs)
+    (λ c. search needs)
+    (λ c κs. search needs)
+    (λ c κs. search needs)
+    (λ c κs. search needs)
+    (λ c. search needs)
+    (λ c κs. search needs)
+    (λ c. search needs)
+    (λ c κs. search needs)
+    (λ c. search needs)
+    (λ c. search needs)
+    (λ c. search needs)
+    (λ c κs. search needs)
+    (λ c. search needs)
+    (λ c κs. search needs)
+    (λ c. search needs)
+    (λ c.
+    let p = c .before .before .before .before .before in
+    let t = p .before .before .before in
+    stored-as (now (t .before .before .before .args .numbers)) (t .before .before .before .args .load) _ _ _ _ _ _ _ _ (t .before .high .ensures)
+    (p .before .high2 .ensures)
+    (p .phase-number .ensures)
+    (c .before .before .before .index-of .ensures .0)
+    (c .before .before .before .before .joined .ensures ∙ ap (joined (p .phase-number .result)) (t .told-in .ensures))
+    (c .before .before .joined2 .ensures)
+    (c .before .joined3 .ensures)
+    (c .joined4 .ensures)))

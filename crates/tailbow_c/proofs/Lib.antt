@@ -1,2 +1,0 @@
--- Laws that several of the entries' proofs cite.
-pub mod LoadLaws

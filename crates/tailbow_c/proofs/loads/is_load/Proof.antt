@@ -1,9 +1,0 @@
--- `tailbow_c::loads::is_load`: the phase's test, then the table's.
-use borrow.Author.Needs.{needs}
-use Rattle.laws.specs.Chain.{chain}
-use Rattle.tailbow_c.proofs.loads.is_load.Statement.{statement}
-use Rattle.tailbow_c.proofs.loads.is_load.Tie as tie
-
-pub is-load-spec : {M : Type 1} → statement M
-is-load-spec =
-    tie.close (tie.spec (λ c. search needs) (λ c. search (needs, chain)) (λ c. search needs) (λ c. search (needs, chain)))
