@@ -1,7 +1,7 @@
 // Verdicts, tiles and the answers of a ledger as numbers that C and Rust share: conversions alone. They call no judge and no ledger, so what
 // each kind is told as stands apart from what is judged.
-use settle::Verdict;
 use ledger::Answer;
+use settle::Verdict;
 use tile::shares::Asked;
 use tile::shares::Tile;
 ghost use mathlib.Core.Path.{_≡_};

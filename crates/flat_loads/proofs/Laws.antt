@@ -23,7 +23,7 @@ use Rattle.placing.specs.Data.{dataPlace}
 use Rattle.states.specs.Leaves.{Writes, Ends}
 use Rattle.states.specs.declared.Wrote.{Wrote}
 use Rattle.placing.proofs.Data.{DataWrite, data-write}
-use Rattle.flat_states.specs.Flat.{low, high, joined, phaseOf, tableOf, loadIn, isLoad, numbersOf, storedIn, moved, numberOf}
+use Rattle.flat_numbers.specs.Flat.{low, high, joined, phaseOf, tableOf, loadIn, isLoad, numbersOf, storedIn, moved, numberOf}
 use Rattle.flat_states.specs.Round.{joined-halves, put-back, table-kept}
 use Rattle.flat_loads.specs.Calls.{FlatWritten, flattened, asFoundFlat, wroteFlat, WritesFlat, EndsFlat}
 use Rattle.flat_loads.specs.Through.{of-state}

@@ -6,7 +6,7 @@ use Prim.Native.Nat.{ℕ}
 use Rattle.image.specs.Loaded.{tooShort}
 use Rattle.stream.specs.Machine.{Written, wrote}
 use Rattle.stream.specs.Paper.{Whole, loadedWords, loadedBytes}
-use Rattle.flat_states.specs.Flat.{storedIn, isLoad, loadIn, numberOf}
+use Rattle.flat_numbers.specs.Flat.{storedIn, isLoad, loadIn, numberOf}
 
 -- ---- a write
 

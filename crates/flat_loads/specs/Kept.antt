@@ -17,7 +17,7 @@ use Rattle.stream.specs.Machine.{Machine, at, told, stepIn, step, run, damaged,
 use Rattle.stream.specs.declared.Phase.{Phase}
 use Rattle.stream.specs.declared.Phase.the-variants.{Device, Id, Length, Sum, Data, Told}
 use Rattle.stream.specs.declared.Load.{Load}
-use Rattle.flat_states.specs.Flat.{low, loadIn, isLoad, numbersOf, storedIn}
+use Rattle.flat_numbers.specs.Flat.{low, loadIn, isLoad, numbersOf, storedIn}
 use Rattle.flat_states.specs.Round.{Halves, state-back, is-state}
 use Rattle.flat_loads.specs.Calls.{FlatWritten, wroteFlat}
 use Rattle.flat_loads.specs.Through.{of-state}

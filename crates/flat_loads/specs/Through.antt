@@ -7,7 +7,7 @@ use lib.ListN.{length}
 use Rattle.image.specs.Loaded.{tooShort}
 use Rattle.stream.specs.Machine.{Written, untouched, wrote}
 use Rattle.stream.specs.declared.Load.{Load}
-use Rattle.flat_states.specs.Flat.{loadIn, isLoad, storedIn}
+use Rattle.flat_numbers.specs.Flat.{loadIn, isLoad, storedIn}
 use Rattle.flat_states.specs.Round.{Halves, numbers-back, state-back, is-state}
 use Rattle.flat_loads.specs.Calls.{FlatWritten, flattened, asFoundFlat, wroteFlat}
 

@@ -1,14 +1,14 @@
 // Loads by a lent load state of six numbers (`flat_states`), and whole loads with their answers as numbers: what the exports of `tailbow_c` pass
 // on to. Data of one block alone go in on the numbers themselves, every other write by the load state that they are.
-use flat_states::HALF;
-use flat_states::MORE;
-use flat_states::is_load;
+use flat_numbers::HALF;
+use flat_numbers::MORE;
+use flat_numbers::is_load;
+use flat_numbers::number_of;
+use flat_numbers::table_of;
 use flat_states::load_in;
 use flat_states::move_on;
-use flat_states::number_of;
 use flat_states::store;
 use flat_states::sums_of;
-use flat_states::table_of;
 ghost use mathlib.Core.Path.{_≡_};
 ghost use mathlib.Core.List.{[], _∷_};
 ghost use Rattle.flat_loads.specs.Calls.{WritesFlat, LoadsWords, LoadsBytes};

@@ -1,24 +1,14 @@
--- A number that no table has; a load state from its parts, and its numbers from theirs.
-use mathlib.Core.Path.{_≡_, sym}
+-- A load state from its parts, and its numbers from theirs.
+use mathlib.Core.Path.{_≡_}
 use mathlib.Core.List.{List, [], _∷_}
-use Prim.Native.Nat.{ℕ, _≤_}
-use native.Mathlib.Omega.{arith}
-use lib.ListN.{getD, List·getD-eq-default}
+use Prim.Native.Nat.{ℕ}
+use lib.ListN.{getD}
 use lib.Seq.{sets}
-use Rattle.image.specs.Tables.{indexOf, tables}
+use Rattle.image.specs.Tables.{indexOf}
 use Rattle.image.specs.declared.tables.Table.{Table}
-use Rattle.image.specs.declared.tables.Table.the-variants.{AddressLookup}
 use Rattle.stream.specs.declared.Load.{Load}
 use Rattle.stream.specs.declared.Phase.{Phase}
-use Rattle.flat_states.specs.Flat.{low, high, joined, phaseNumber, toldIn, phaseOf, tableOf, loadIn, storedIn}
-
--- ---- a number that no table has
-
-pub past-four : (n : ℕ) → (n ≡ 0 → ⊥) → (n ≡ 1 → ⊥) → (n ≡ 2 → ⊥) → (n ≡ 3 → ⊥) → (n ≡ 4 → ⊥) → 5 ≤ n
-past-four n a b c d e = omega arith
-
-pub no-table : (n : ℕ) → 5 ≤ n → (n ≡ 5 → ⊥) → (n ≡ 6 → ⊥) → (n ≡ 7 → ⊥) → (n ≡ 8 → ⊥) → AddressLookup ≡ tableOf n
-no-table n h a b c d = sym (List·getD-eq-default tables AddressLookup {n = n} (omega arith))
+use Rattle.flat_numbers.specs.Flat.{low, high, joined, phaseNumber, toldIn, phaseOf, tableOf, loadIn, storedIn}
 
 -- ---- a state from its parts
 pub load-as : (c : List ℕ) (p : Phase) (t : Table) (told first second stream block : ℕ) → told ≡ high (getD c 0 0) → p ≡ phaseOf (low (getD c 0 0)) told

@@ -1,3 +1,2 @@
--- A load state as numbers and back, and that nothing is lost on the way.
-pub mod Flat
+-- That nothing of a load state is lost in its numbers, nor of the numbers in the state.
 pub mod Round

@@ -16,7 +16,7 @@ use Rattle.stream.specs.Runs.{index-lt}
 use Rattle.stream.specs.declared.Phase.{Phase}
 use Rattle.stream.specs.declared.Phase.the-variants.{Device, Id, Length, Sum, Data, Told}
 use Rattle.stream.specs.declared.Load.{Load}
-use Rattle.flat_states.specs.Flat.{low, high, joined, phaseNumber, toldIn, phaseOf, tableOf, loadIn, isLoad, numbersOf, storedIn}
+use Rattle.flat_numbers.specs.Flat.{low, high, joined, phaseNumber, toldIn, phaseOf, tableOf, loadIn, isLoad, numbersOf, storedIn}
 
 -- ---- halves
 

@@ -26,7 +26,7 @@ use Rattle.records.specs.Promises as records
 use Rattle.flat_answers.specs.declared.FlatVerdict.{FlatVerdict}
 use Rattle.flat_answers.specs.declared.FlatTile.{FlatTile}
 use Rattle.flat_lists.specs.declared.FlatRecord.{FlatRecord}
-use Rattle.flat_states.specs.Flat.{FreshLoad, one-fresh-load}
+use Rattle.flat_numbers.specs.Flat.{FreshLoad, one-fresh-load}
 use Rattle.flat_loads.specs.Calls.{WritesFlat, LoadsWords, LoadsBytes}
 use Rattle.flat_loads.specs.Calls as loads
 use Rattle.flat_frames.specs.Frames.{FreshensFlat, JudgesFlat, ReleasesFlat, TilesFlat}

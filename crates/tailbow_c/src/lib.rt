@@ -4,7 +4,7 @@ use flat_answers::FlatTile;
 use flat_answers::FlatVerdict;
 use flat_lists::FlatRecord;
 use ledger::CELLS;
-ghost use Rattle.flat_states.specs.Flat.{FreshLoad};
+ghost use Rattle.flat_numbers.specs.Flat.{FreshLoad};
 ghost use Rattle.flat_loads.specs.Calls.{WritesFlat, LoadsWords, LoadsBytes};
 ghost use Rattle.flat_frames.specs.Frames.{FreshensFlat, JudgesFlat, ReleasesFlat, TilesFlat};
 ghost use Rattle.flat_lists.specs.Lists.{RecordsFlat};
@@ -14,7 +14,7 @@ ghost use Rattle.flat_lists.specs.Lists.{RecordsFlat};
 pub extern "C" fn tailbow_fresh_load(load: &mut [u64; 6])
     ensures { λ r. ⌜ FreshLoad (now (load .exit)) ⌝ }
 {
-    flat_states::fresh_load(load);
+    flat_numbers::fresh_load(load);
 }
 
 // Words for a load. The buffer's first 11,456 words are the image.

@@ -2,7 +2,7 @@
 use mathlib.Core.Path.{ap}
 use borrow.Author.Needs.{needs}
 use denote.Ref.{now}
-use Rattle.flat_states.specs.Flat.{moved}
+use Rattle.flat_numbers.specs.Flat.{moved}
 use Rattle.flat_states.proofs.move_on.Statement.{statement}
 use Rattle.flat_states.proofs.move_on.Tie as tie
 

@@ -2,7 +2,7 @@
 use mathlib.Core.Path.{_∙_, ap}
 use borrow.Author.Needs.{needs}
 use denote.Ref.{now}
-use Rattle.flat_states.specs.Flat.{joined}
+use Rattle.flat_numbers.specs.Flat.{joined}
 use Rattle.flat_states.proofs.Laws.{stored-as}
 use Rattle.flat_states.proofs.store.Statement.{statement}
 use Rattle.flat_states.proofs.store.Tie as tie

@@ -1,8 +1,8 @@
--- `flat_states::is_load`: the phase's test, then the table's.
+-- `flat_numbers::is_load`: the phase's test, then the table's.
 use borrow.Author.Needs.{needs}
 use Rattle.laws.specs.Chain.{chain}
-use Rattle.flat_states.proofs.is_load.Statement.{statement}
-use Rattle.flat_states.proofs.is_load.Tie as tie
+use Rattle.flat_numbers.proofs.is_load.Statement.{statement}
+use Rattle.flat_numbers.proofs.is_load.Tie as tie
 
 pub is-load-spec : {M : Type 1} → statement M
 is-load-spec =

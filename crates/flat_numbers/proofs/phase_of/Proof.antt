@@ -1,12 +1,12 @@
--- `flat_states::phase_of`: each number below 5 computes; past them an answer has been told.
+-- `flat_numbers::phase_of`: each number below 5 computes; past them an answer has been told.
 use mathlib.Core.Path.{sym}
 use native.Mathlib.Omega.{arith}
 use lib.ListN.{List·getD-eq-default}
 use borrow.Author.Needs.{needs}
 use Rattle.stream.specs.declared.Phase.the-variants.{Told}
-use Rattle.flat_states.specs.Flat.{phases}
-use Rattle.flat_states.proofs.phase_of.Statement.{statement}
-use Rattle.flat_states.proofs.phase_of.Tie as tie
+use Rattle.flat_numbers.specs.Flat.{phases}
+use Rattle.flat_numbers.proofs.phase_of.Statement.{statement}
+use Rattle.flat_numbers.proofs.phase_of.Tie as tie
 
 pub phase-of-spec : {M : Type 1} → statement M
 phase-of-spec =

@@ -1,0 +1,2 @@
+-- Laws that the proofs of single numbers cite.
+pub mod Laws

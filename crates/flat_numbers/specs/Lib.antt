@@ -1,0 +1,2 @@
+-- A load state as six numbers in a row, and back; an answer as a number.
+pub mod Flat
