@@ -1,10 +1,15 @@
 -- `quick::stored`: what was stored and summed is the machine's run.
 use mathlib.Core.Path.{refl}
+use native.Mathlib.Nat.{mul-comm}
+use native.Mathlib.Omega.{arith}
 use borrow.Author.Needs.{needs}
 use denote.Ref.{now}
+use Rattle.image.specs.Rows.{sizeOf, mostOf}
+use Rattle.image.specs.Tables.{indexOf}
+use Rattle.stream.specs.Bridge.{room-inside}
+use Rattle.stream.specs.Runs.{index-lt}
 use Rattle.states.proofs.Laws.{so}
 use Rattle.placing.proofs.Laws.{data-run}
-use native.Mathlib.Omega.{arith}
 use Rattle.quick.proofs.stored.Statement.{statement}
 use Rattle.quick.proofs.stored.Tie as tie
 
@@ -25,7 +30,9 @@ stored-spec =
     (tie.spec
     (λ c κs. let s = c .before .before .before in (s .pre .0 .0, omega (arith, s .pre .0 .1)))
     (λ c κs. omega arith)
-    (λ c. omega arith)
+    (λ c. let s = c .before .before .before .before .before .before .before .before in
+    let k = indexOf (s .args .load .table) in
+    omega (arith, s .pre .0 .1, room-inside k (index-lt (s .args .load .table)), mul-comm (mostOf k) (sizeOf k)))
     (λ c. search needs)
     (λ c κs. search needs)
     (λ c. c .before .before .before .copy .kept .0)
