@@ -19,10 +19,10 @@ use Rattle.stream.specs.Machine.{filling, Written, wrote}
 use Rattle.stream.specs.Paper.{Whole}
 use Rattle.stream.specs.declared.Answer.{Answer}
 use Rattle.stream.specs.declared.Load.{Load}
-use Rattle.placing.specs.Data.{dataPlace}
+use Rattle.one_block.specs.Data.{dataPlace}
 use Rattle.states.specs.Leaves.{Writes, Ends}
 use Rattle.states.specs.declared.Wrote.{Wrote}
-use Rattle.placing.proofs.Data.{DataWrite, data-write}
+use Rattle.one_block.proofs.Data.{DataWrite, data-write}
 use Rattle.flat_numbers.specs.Flat.{low, high, joined, phaseOf, tableOf, loadIn, isLoad, numbersOf, storedIn, moved, numberOf}
 use Rattle.flat_states.specs.Round.{joined-halves, put-back, table-kept}
 use Rattle.flat_loads.specs.Calls.{FlatWritten, flattened, asFoundFlat, wroteFlat, WritesFlat, EndsFlat}

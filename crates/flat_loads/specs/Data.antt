@@ -10,7 +10,7 @@ use Rattle.crc.specs.Crc.{wordsIn}
 use Rattle.image.specs.Layout.{imageWords}
 use Rattle.image.specs.Loaded.{tooShort}
 use Rattle.image.specs.Tables.{indexOf}
-use Rattle.placing.specs.Data.{dataPlace}
+use Rattle.one_block.specs.Data.{dataPlace}
 use Rattle.flat_numbers.specs.Flat.{low, joined, tableOf, loadIn, moved}
 
 -- where the n words of a write go; behind the image where they are not of one block alone, or where a test refuses the write

@@ -28,7 +28,7 @@ fn place_of(image: &[u32], numbers: &[u64; 6], n: usize) -> usize
     if 8 < table {
         return image::counts::IMAGE_WORDS;
     }
-    placing::data_place(
+    one_block::data_place(
         image,
         table_of(table),
         numbers[2] as usize,
@@ -53,7 +53,7 @@ fn take_words(image: &mut [u32], numbers: &mut [u64; 6], place: usize, words: &[
     requires { ⌜ Fits (now numbers) (now image) (now words) place ⌝ }
     ensures { λ r. ⌜ Takes (now (numbers .entry)) (now (image .entry)) (now (words .entry)) place r (now (numbers .exit)) (now (image .exit)) ⌝ }
 {
-    placing::copy(image, place, words);
+    one_block::copy(image, place, words);
     let sums = crc_short::words_in_both(sums_of(numbers), words);
     move_on(numbers, words.len() as u64, sums);
     MORE

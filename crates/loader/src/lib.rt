@@ -41,14 +41,14 @@ fn run(image: &mut [u32], load: Load, words: &[u32]) -> Load
 pub fn write(image: &mut [u32], load: Load, words: &[u32]) -> Wrote
     ensures { λ r. ⌜ Writes load (now (image .entry)) (now (words .entry)) r (now (image .exit)) ⌝ }
 {
-    let refusal = placing::write_refusal(image, load, words.len());
+    let refusal = refusal::write_refusal(image, load, words.len());
     if refusal != 0 {
         return Wrote {
             answer: Answer::Refused(refusal),
             load,
         };
     }
-    placing::open(image, load);
+    refusal::open(image, load);
     let next = run(image, load, words);
     let phase = next.phase;
     Wrote {

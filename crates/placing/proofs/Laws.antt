@@ -1,28 +1,23 @@
 -- A block's place, and what each of its words leaves, as the machine says it.
 use mathlib.Core.Path.{_≡_, refl, sym, _∙_, ap, subst}
-use mathlib.Core.Bool.{Bool, true, false, cond, true≢false}
-use mathlib.Core.List.{List, [], _∷_}
-use Prim.Native.Nat.{ℕ, zero, suc, _+_, _-_, _*_, _/_, _<_, _≤_}
-use native.Mathlib.Nat.{mul-comm, add-zero, not-suc-le-zero, zero-lt-suc}
-use lib.Dec.{ltb, leb, eqb}
+use mathlib.Core.Bool.{true, cond}
+use mathlib.Core.List.{List}
+use Prim.Native.Nat.{ℕ, _+_, _-_, _*_, _/_, _≤_}
+use native.Mathlib.Nat.{mul-comm, add-zero}
+use lib.Dec.{leb, eqb}
 use native.Mathlib.Omega.{arith}
-use lib.ListN.{length, set}
-use lib.Seq.{sets}
-use borrow.Author.Tests.{ltb-true, ltb-false, leb-true, lt-ltb, le-ltb}
+use lib.ListN.{set}
+use borrow.Author.Tests.{leb-true}
 use Rattle.laws.specs.Scan.{every, every-at}
 use Rattle.laws.specs.Chain.{hit-eq, pass-eq, hit-ne, pass-ne}
-use Rattle.crc.specs.Crc.{wordIn, wordsIn, finished}
+use Rattle.crc.specs.Crc.{wordIn, finished}
 use Rattle.image.specs.Rows.{sizeOf, mostOf, baseOf}
-use Rattle.image.specs.Layout.{imageWords, entryWords, imageIn}
-use Rattle.image.specs.Loaded.{tooShort}
+use Rattle.image.specs.Layout.{entryWords}
 use Rattle.image.specs.Tables.{indexOf}
 use Rattle.image.specs.declared.tables.Table.{Table}
-use Rattle.stream.specs.Machine.{Machine, at, idle, filling, refuse, hadIn, placeIn, filled, stepIn, step, run, beyond, outside}
-use Rattle.stream.specs.declared.Phase.{Phase}
-use Rattle.stream.specs.declared.Phase.the-variants.{Data}
-use Rattle.stream.specs.declared.Load.{Load}
+use Rattle.stream.specs.Machine.{Machine, at, idle, filling, refuse, hadIn, placeIn, filled}
 use Rattle.placing.specs.Places.{RoomOf}
-use Rattle.stream.specs.Runs.{index-lt, run-data}
+use Rattle.stream.specs.Runs.{index-lt}
 use Rattle.stream.specs.Bridge.{size-positive, room-inside}
 use Rattle.stream.specs.Fine.{raised}
 
@@ -102,58 +97,3 @@ module _ (t : Table) (placed due s b w : ℕ) (buffer : List ℕ) where
       ∙ ap (λ (x : ℕ). at (filling t (placed + 1) (due - 1) (wordIn s w) x) (set buffer place w)) eb
       ∙ ap (λ (x : ℕ). at (filling t (placed + 1) (due - 1) (wordIn s w) (wordIn b w)) (set buffer x w)) ep
       ∙ pass-eq due 0 _ _ _ ne refl
-
--- a run of data words from any load that is inside a block
-pub run-filling : (l : Load) (buffer ds : List ℕ) → l .phase ≡ Data → 0 < length ds
-    → run (at l buffer) ds ≡ run (at (filling (l .table) (l .placed) (l .due) (l .stream) (l .block)) buffer) ds
-unfolding run step
-run-filling l buffer [] e h = absurd (not-suc-le-zero h)
-run-filling l buffer (d ∷ ds) e h = ap (λ (x : Phase). run (stepIn x l buffer d) ds) e
-
--- what was stored and summed is the machine's run
-pub data-run : (l : Load) (buffer ds stored : List ℕ) (place s b : ℕ) → l .phase ≡ Data → 0 < length ds → length ds ≤ l .due
-    → place + length ds ≤ entryWords
-    → place ≡ placeIn buffer (indexOf (l .table)) (l .placed)
-    → stored ≡ sets buffer place ds
-    → s ≡ wordsIn (l .stream) ds
-    → b ≡ wordsIn (l .block) ds
-    → at (filling (l .table) (l .placed + length ds) (l .due - length ds) s b) stored ≡ run (at l buffer) ds
-data-run l buffer ds stored place s b e some fits inside ep est es eb =
-    ap (λ (x : List ℕ). at (filling (l .table) (l .placed + length ds) (l .due - length ds) s b) x) (est ∙ ap (λ (x : ℕ). sets buffer x ds) ep)
-    ∙ ap (λ (x : ℕ). at (filling (l .table) (l .placed + length ds) (l .due - length ds) x b) (sets buffer p ds)) es
-    ∙ ap (λ (x : ℕ). at (filling (l .table) (l .placed + length ds) (l .due - length ds) (wordsIn (l .stream) ds) x) (sets buffer p ds)) eb
-    ∙ sym
-    (run-filling l buffer ds e some
-    ∙ run-data (l .table) (l .placed) (l .due) (l .stream) (l .block) buffer ds fits (subst (λ (x : ℕ). x + length ds ≤ entryWords) ep inside))
-  where
-    p : ℕ
-    p = placeIn buffer (indexOf (l .table)) (l .placed)
-
--- ---- 30's sum, tested by a difference
--- two tests that hold together and fail together
-together : (a b c d : ℕ) → (a < b → c < d) → (b ≤ a → d ≤ c) → ltb a b ≡ ltb c d
-together a b c d f g = go (ltb a b) refl
-  where
-    go : (t : Bool) → ltb a b ≡ t → t ≡ ltb c d
-    go true e = sym (lt-ltb c d (f (ltb-true a b e)))
-    go false e = sym (le-ltb c d (g (ltb-false a b e)))
-
-pub same-test : (left placed due : ℕ) → placed ≤ left → ltb (left - placed) due ≡ ltb left (placed + due)
-same-test left placed due h = together (left - placed) due left (placed + due) (λ l. omega arith) (λ l. omega arith)
-
-pub beyond-is : (k : ℕ) (buffer : List ℕ) (left placed due : ℕ) → hadIn buffer k * sizeOf k + left ≡ mostOf k * sizeOf k
-    → ltb left (placed + due) ≡ beyond (imageIn buffer) k placed due
-beyond-is k buffer left placed due e = go (hadIn buffer k * sizeOf k) (mostOf k * sizeOf k) e
-  where
-    go : (had room : ℕ) → had + left ≡ room → ltb left (placed + due) ≡ ltb room (had + placed + due)
-    go had room e = together left (placed + due) room (had + placed + due) (λ l. omega arith) (λ l. omega arith)
-
--- ---- 31 and 32
--- 31's test failed: the buffer has room
-pub has-room : (buffer : List ℕ) (short : Bool) → short ≡ tooShort buffer → short ≡ false → imageWords ≤ length buffer
-has-room buffer short e h = ltb-false (length buffer) imageWords (sym e ∙ h)
-
--- 32's test failed: there is a word
-pub some-word : (n : ℕ) → outside n ≡ false → 0 < n
-some-word zero h = absurd (true≢false h)
-some-word (suc n) h = zero-lt-suc n

@@ -1,4 +1,2 @@
--- Laws that several of these proofs cite, and the proofs of every `write`.
+-- Laws that the proofs of placing cite.
 pub mod Laws
-pub mod Writes
-pub mod Data

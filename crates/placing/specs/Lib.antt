@@ -1,4 +1,2 @@
--- Where a block's data go, and what a write is refused with.
+-- Where a block's data go.
 pub mod Places
-pub mod Data
-pub mod Refusal

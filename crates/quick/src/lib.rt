@@ -26,7 +26,7 @@ pub fn stored(image: &mut [u32], load: Load, words: &[u32], sums: Both) -> Load
     let placed = load.placed;
     let due = load.due;
     let place = placing::place_of(image, table, placed, due);
-    placing::copy(image, place, words);
+    one_block::copy(image, place, words);
     states::filling(
         table,
         placed + words.len(),
@@ -101,14 +101,14 @@ pub fn run(image: &mut [u32], load: Load, words: &[u32]) -> Load
 pub fn write(image: &mut [u32], load: Load, words: &[u32]) -> Wrote
     ensures { λ r. ⌜ Writes load (now (image .entry)) (now (words .entry)) r (now (image .exit)) ⌝ }
 {
-    let refusal = placing::write_refusal(image, load, words.len());
+    let refusal = refusal::write_refusal(image, load, words.len());
     if refusal != 0 {
         return Wrote {
             answer: Answer::Refused(refusal),
             load,
         };
     }
-    placing::open(image, load);
+    refusal::open(image, load);
     let next = run(image, load, words);
     let phase = next.phase;
     Wrote {

@@ -9,7 +9,7 @@ use Rattle.image.specs.Tables.{indexOf}
 use Rattle.stream.specs.Bridge.{room-inside}
 use Rattle.stream.specs.Runs.{index-lt}
 use Rattle.states.proofs.Laws.{so}
-use Rattle.placing.proofs.Laws.{data-run}
+use Rattle.one_block.proofs.Laws.{data-run}
 use Rattle.quick.proofs.stored.Statement.{statement}
 use Rattle.quick.proofs.stored.Tie as tie
 

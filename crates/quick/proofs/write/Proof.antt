@@ -5,7 +5,7 @@ use denote.Ref.{now}
 use Rattle.stream.specs.Machine.{Machine, run}
 use Rattle.stream.specs.Fine.{Fine}
 use Rattle.states.proofs.Laws.{so}
-use Rattle.placing.proofs.Writes.{LetBy, writes-refused, let-by, opened-fine, writes-run}
+use Rattle.refusal.proofs.Writes.{LetBy, writes-refused, let-by, opened-fine, writes-run}
 use Rattle.quick.proofs.write.Statement.{statement}
 use Rattle.quick.proofs.write.Tie as tie
 

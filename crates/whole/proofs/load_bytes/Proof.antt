@@ -3,7 +3,7 @@ use mathlib.Core.Path.{refl, sym, _∙_, ap, subst}
 use borrow.Author.Needs.{needs}
 use denote.Ref.{now}
 use Rattle.whole.proofs.Laws.{ends-as, bytes-31, bytes-9, bytes-whole}
-use Rattle.placing.proofs.Laws.{has-room}
+use Rattle.refusal.proofs.Laws.{has-room}
 use Rattle.states.proofs.Laws.{leaves-at}
 use Prim.Native.Nat.{ℕ, _≤_}
 use Rattle.image.specs.Layout.{imageWords}

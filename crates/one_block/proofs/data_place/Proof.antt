@@ -1,4 +1,4 @@
--- `placing::data_place`: its tests in the definition's order, then the place.
+-- `one_block::data_place`: its tests in the definition's order, then the place.
 use mathlib.Core.Path.{_≡_, sym, _∙_, ap}
 use Prim.Native.Nat.{ℕ, _+_, _≤_}
 use native.Mathlib.Nat.{mul-le-mul-right}
@@ -13,10 +13,10 @@ use Rattle.image.specs.Sound.{within-limits}
 use Rattle.image.specs.Tables.{indexOf}
 use Rattle.stream.specs.Machine.{beyond}
 use Rattle.stream.specs.Runs.{index-lt}
-use Rattle.placing.specs.Data.{dataPlace}
-use Rattle.placing.proofs.Laws.{beyond-is}
-use Rattle.placing.proofs.data_place.Statement.{statement}
-use Rattle.placing.proofs.data_place.Tie as tie
+use Rattle.one_block.specs.Data.{dataPlace}
+use Rattle.refusal.proofs.Laws.{beyond-is}
+use Rattle.one_block.proofs.data_place.Statement.{statement}
+use Rattle.one_block.proofs.data_place.Tie as tie
 
 returns : tie.Need-returns
 unfolding dataPlace

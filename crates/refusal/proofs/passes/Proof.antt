@@ -1,11 +1,11 @@
--- `placing::passes`: the difference that is tested says what the sum says.
+-- `refusal::passes`: the difference that is tested says what the sum says.
 use mathlib.Core.Path.{sym}
 use Prim.Native.Nat.{_+_}
 use native.Mathlib.Omega.{arith}
 use borrow.Author.Tests.{lt-ltb}
-use Rattle.placing.proofs.Laws.{same-test}
-use Rattle.placing.proofs.passes.Statement.{statement}
-use Rattle.placing.proofs.passes.Tie as tie
+use Rattle.refusal.proofs.Laws.{same-test}
+use Rattle.refusal.proofs.passes.Statement.{statement}
+use Rattle.refusal.proofs.passes.Tie as tie
 
 pub passes-spec : {M : Type 1} → statement M
 passes-spec =

@@ -1,10 +1,10 @@
--- `placing::write_refusal`: its tests in the definition's order. Where 30 is asked, 31's test has failed.
+-- `refusal::write_refusal`: its tests in the definition's order. Where 30 is asked, 31's test has failed.
 use borrow.Author.Needs.{needs}
 use Rattle.laws.specs.Chain.{flags}
-use Rattle.placing.specs.Refusal.{writeRefusal}
-use Rattle.placing.proofs.Laws.{has-room}
-use Rattle.placing.proofs.write_refusal.Statement.{statement}
-use Rattle.placing.proofs.write_refusal.Tie as tie
+use Rattle.refusal.specs.Refusal.{writeRefusal}
+use Rattle.refusal.proofs.Laws.{has-room}
+use Rattle.refusal.proofs.write_refusal.Statement.{statement}
+use Rattle.refusal.proofs.write_refusal.Tie as tie
 
 pub write-refusal-spec : {M : Type 1} → statement M
 unfolding writeRefusal

@@ -1,12 +1,12 @@
--- `placing::overdue`: by the phase.
+-- `refusal::overdue`: by the phase.
 use mathlib.Core.Path.{sym, _∙_, ap}
 use borrow.Author.Needs.{needs}
 use denote.Ref.{now}
 use Rattle.image.specs.Layout.{imageIn}
 use Rattle.stream.specs.Machine.{overdueIn}
 use Rattle.stream.specs.declared.Phase.{Phase}
-use Rattle.placing.proofs.overdue.Statement.{statement}
-use Rattle.placing.proofs.overdue.Tie as tie
+use Rattle.refusal.proofs.overdue.Statement.{statement}
+use Rattle.refusal.proofs.overdue.Tie as tie
 
 pub overdue-spec : {M : Type 1} → statement M
 overdue-spec =

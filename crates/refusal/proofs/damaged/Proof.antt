@@ -1,12 +1,12 @@
--- `placing::damaged`: the tests of 30, in their order.
+-- `refusal::damaged`: the tests of 30, in their order.
 use mathlib.Core.Path.{_≡_, refl, sym, _∙_}
 use borrow.Author.Needs.{needs}
 use mathlib.Core.Bool.{Bool, false, cond, not}
 use borrow.Author.Tests.{not-true, not-false}
 use Rattle.laws.specs.Chain.{hit, pass}
 use Rattle.image.specs.Sound.{within-limits}
-use Rattle.placing.proofs.damaged.Statement.{statement}
-use Rattle.placing.proofs.damaged.Tie as tie
+use Rattle.refusal.proofs.damaged.Statement.{statement}
+use Rattle.refusal.proofs.damaged.Tie as tie
 
 begun-b : {r b v x : Bool} → r ≡ b → not r ≡ false → v ≡ x → v ≡ cond b x false
 begun-b {r} {b} {v} {x} e h p = p ∙ hit r b x false e (not-false r h)

@@ -1,13 +1,13 @@
--- `placing::open`: a begun load on its own buffer, a fresh one on the cleared.
+-- `refusal::open`: a begun load on its own buffer, a fresh one on the cleared.
 use mathlib.Core.Path.{_∙_, ap}
 use mathlib.Core.List.{List}
 use Prim.Native.Nat.{ℕ}
 use borrow.Author.Needs.{needs}
 use denote.Ref.{now}
 use Rattle.stream.specs.Machine.{at}
-use Rattle.placing.proofs.Writes.{opened-begun, opened-fresh}
-use Rattle.placing.proofs.«open».Statement.{statement}
-use Rattle.placing.proofs.«open».Tie as tie
+use Rattle.refusal.proofs.Writes.{opened-begun, opened-fresh}
+use Rattle.refusal.proofs.«open».Statement.{statement}
+use Rattle.refusal.proofs.«open».Tie as tie
 
 pub open-spec : {M : Type 1} → statement M
 open-spec =

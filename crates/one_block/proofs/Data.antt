@@ -22,9 +22,10 @@ use Rattle.stream.specs.declared.Answer.the-variants.{More}
 use Rattle.stream.specs.declared.Load.{Load}
 use Rattle.stream.specs.declared.Phase.{Phase}
 use Rattle.stream.specs.declared.Phase.the-variants.{Data}
-use Rattle.placing.specs.Data.{dataPlace}
-use Rattle.placing.proofs.Writes.{wrote-run, opened-begun}
-use Rattle.placing.proofs.Laws.{some-word, data-run}
+use Rattle.one_block.specs.Data.{dataPlace}
+use Rattle.refusal.proofs.Writes.{wrote-run, opened-begun}
+use Rattle.refusal.proofs.Laws.{some-word}
+use Rattle.one_block.proofs.Laws.{data-run}
 
 -- ---- a place in the image: each test has failed
 

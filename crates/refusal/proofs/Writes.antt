@@ -13,11 +13,11 @@ use Rattle.stream.specs.declared.Phase.{Phase}
 use Rattle.stream.specs.declared.Phase.the-variants.{Device, Id, Length, Sum, Data, Told}
 use Rattle.stream.specs.declared.Load.{Load}
 use Rattle.states.specs.Leaves.{Leaves, Writes}
-use Rattle.placing.specs.Refusal.{writeRefusal}
+use Rattle.refusal.specs.Refusal.{writeRefusal}
 use Rattle.states.specs.declared.Wrote.{Wrote}
 use Rattle.stream.specs.Fine.{Fine, Roomy, undamaged-fine, cleared-fine}
 use Rattle.stream.specs.declared.Answer.the-variants.{Refused}
-use Rattle.placing.proofs.Laws.{has-room}
+use Rattle.refusal.proofs.Laws.{has-room}
 
 -- ---- refused
 

@@ -1,4 +1,4 @@
--- `placing::copy`: after i turns the first i words are in place.
+-- `one_block::copy`: after i turns the first i words are in place.
 use mathlib.Core.Path.{_≡_, refl, sym, ap, _∙_}
 use mathlib.Core.List.{List, _++_}
 use Prim.Native.Nat.{ℕ, _+_, _-_, _≤_, zero-le}
@@ -9,8 +9,8 @@ use lib.ListN.{length, getD, set, take, drop, length-set}
 use lib.Seq.{sets-eq, paste, paste-zero, paste-suc, take-length}
 use borrow.Author.Needs.{needs}
 use denote.Ref.{now}
-use Rattle.placing.proofs.copy.Statement.{statement}
-use Rattle.placing.proofs.copy.Tie as tie
+use Rattle.one_block.proofs.copy.Statement.{statement}
+use Rattle.one_block.proofs.copy.Tie as tie
 
 abbrev Inv-loop : tie.InvT-loop
 Inv-loop image₀ place words i₀ image i = (i ≤ length words) × (image ≡ paste image₀ place words i) × (length image ≡ length image₀)

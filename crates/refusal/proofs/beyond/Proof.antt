@@ -1,4 +1,4 @@
--- `placing::beyond`: what is left is the room less what the table had.
+-- `refusal::beyond`: what is left is the room less what the table had.
 use mathlib.Core.Path.{_∙_}
 use native.Mathlib.Nat.{mul-le-mul-right}
 use borrow.Author.Needs.{needs}
@@ -6,9 +6,9 @@ use denote.Ref.{now}
 use Rattle.image.specs.Rows.{sizeOf}
 use Rattle.image.specs.Tables.{indexOf}
 use Rattle.stream.specs.Runs.{index-lt}
-use Rattle.placing.proofs.Laws.{beyond-is}
-use Rattle.placing.proofs.beyond.Statement.{statement}
-use Rattle.placing.proofs.beyond.Tie as tie
+use Rattle.refusal.proofs.Laws.{beyond-is}
+use Rattle.refusal.proofs.beyond.Statement.{statement}
+use Rattle.refusal.proofs.beyond.Tie as tie
 
 pub beyond-spec : {M : Type 1} → statement M
 beyond-spec =

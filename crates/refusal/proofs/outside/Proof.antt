@@ -1,8 +1,8 @@
--- `placing::outside`: 0, or above 64.
+-- `refusal::outside`: 0, or above 64.
 use mathlib.Core.Path.{refl}
 use Rattle.laws.specs.Chain.{hit-eq, pass-eq}
-use Rattle.placing.proofs.outside.Statement.{statement}
-use Rattle.placing.proofs.outside.Tie as tie
+use Rattle.refusal.proofs.outside.Statement.{statement}
+use Rattle.refusal.proofs.outside.Tie as tie
 
 pub outside-spec : {M : Type 1} → statement M
 outside-spec =

@@ -1,0 +1,2 @@
+-- Where the data of a write inside one block go.
+pub mod Data

@@ -1,0 +1,42 @@
+// A write that brings data of one block alone: where its words go, and the copy of them. Only loads from C and Rust take data so.
+use image::tables::Table;
+ghost use mathlib.Core.Path.{_≡_};
+ghost use Prim.Native.Nat.{_+_, _≤_};
+ghost use lib.ListN.{length};
+ghost use lib.Seq.{sets};
+ghost use Rattle.image.specs.Layout.{imageWords};
+ghost use Rattle.image.specs.Tables.{indexOf};
+ghost use Rattle.one_block.specs.Data.{dataPlace};
+
+// Where a write's n words go inside a block, where they are data of this block alone and no test refuses them; else behind the image.
+pub fn data_place(image: &[u32], table: Table, placed: usize, due: usize, n: usize) -> usize
+    requires { ⌜ imageWords ≤ length (now image) ⌝ }
+    ensures { λ r. ⌜ r ≡ dataPlace (now (image .entry)) (indexOf table) placed due n ⌝ }
+{
+    if refusal::outside(n) {
+        return image::counts::IMAGE_WORDS;
+    }
+    if due < n {
+        return image::counts::IMAGE_WORDS;
+    }
+    if image::counts::over_limit(image) {
+        return image::counts::IMAGE_WORDS;
+    }
+    let room = placing::room_of(image, table);
+    if refusal::passes(room.left, placed, due) {
+        return image::counts::IMAGE_WORDS;
+    }
+    room.place + placed
+}
+
+// Words into the image, one behind the other.
+pub fn copy(image: &mut [u32], place: usize, words: &[u32])
+    requires { ⌜ place + length (now words) ≤ length (now image) ⌝ }
+    ensures { λ r. ⌜ now (image .exit) ≡ sets (now (image .entry)) place (now (words .entry)) ⌝ }
+{
+    let mut i: usize = 0;
+    while i < words.len() {
+        image[place + i] = words[i];
+        i += 1;
+    }
+}

@@ -1,0 +1,2 @@
+-- What a write is refused with.
+pub mod Refusal
