@@ -1,17 +1,19 @@
--- K's stream loads: it passes every framing rule with K's tables, and every loading rule. Each is computed from the definitions of document 01's rules,
--- over all 199 words and over the whole image.
+-- K's stream loads: it passes every framing rule with K's tables, and every loading rule. The first is computed from the definitions of document 01's
+-- rules over all 199 words; the second follows from K's fields, so that no test reads through the whole image.
 use mathlib.Core.Path.{_≡_, refl, sym, _∙_, ap, subst}
-use mathlib.Core.Bool.{cond}
+use mathlib.Core.Bool.{Bool, false, cond}
 use mathlib.Core.List.{List}
-use Prim.Native.Nat.{ℕ}
-use lib.Dec.{eqb}
+use Prim.Native.Nat.{ℕ, zero, suc, _<_}
+use native.Mathlib.Nat.{le-refl, le-step}
+use lib.Dec.{eqb, lit<}
+use borrow.Author.Tests.{lt-ltb}
 use Rattle.laws.specs.Scan.{some-below, first, total, twice}
 use Rattle.crc.specs.Crc.{bit, bitsOut, byteIn, bytesIn, bytesOf, wordIn, wordsIn, finished, checksum}
-use Rattle.image.specs.Layout.{layout, imageOf}
+use Rattle.image.specs.Layout.{imageOf}
 use Rattle.image.specs.Tables.{kindOf}
-use Rattle.image.specs.Fields.{number}
+use Rattle.image.specs.Fields.{vlanid, index}
 use Rattle.image.specs.Loaded.{incomplete}
-use Rattle.rules.specs.Rules.{ruled}
+use Rattle.rules.specs.Rules.{vlanTwice, vlanMissing, sharindxBeyond, spaceOver, indexTwice, ruled}
 use Rattle.stream.specs.Paper.{Outcome, passed, blocks, framed, refusedWith, outcomeOf, loaded}
 use Rattle.config_k.specs.Stream.{K}
 use Rattle.config_k.specs.Tables.{kTables}
@@ -22,10 +24,62 @@ pub k-framed : framed K ≡ passed kTables
 unfolding framed blocks kindOf first checksum finished wordsIn wordIn bytesOf bytesIn byteIn bitsOut bit kTables
 k-framed = refl
 
--- none of the six rules is broken
+-- ---- none of the six rules is broken, each by what K's counts and fields are
+
+none : (n : ℕ) (p : ℕ → Bool) → ((i : ℕ) → i < n → p i ≡ false) → some-below n p ≡ false
+unfolding some-below
+none zero p f = refl
+none (suc n) p f = rw (none n p (λ i h. f i (le-step h)), f n (le-refl (suc n)))
+
+module _ (image : List ℕ) (k : IsK image) where
+  not20 : incomplete image ≡ false
+  unfolding incomplete
+  not20 =
+      rw (
+        k .counts .policers,
+        k .counts .vlans,
+        k .counts .forwardings,
+        k .counts .ports,
+        k .counts .spaces,
+        k .counts .generals,
+        k .counts .modes,
+      )
+
+  not21 : vlanTwice image ≡ false
+  unfolding twice some-below
+  not21 = ap (λ (n : ℕ). twice n (λ i. vlanid image i)) (k .counts .vlans)
+
+  not22 : vlanMissing image ≡ false
+  unfolding first
+  not22 = none 5 _ (λ port h. rw (k .ports .vlan port h, k .counts .vlans, k .vlan .vlan))
+
+  not23 : sharindxBeyond image ≡ false
+  not23 = rw (k .counts .policers) (none 45 _ (λ i h. rw (k .policing .itself i h, lt-ltb i 45 h)))
+
+  not24 : spaceOver image ≡ false
+  unfolding total
+  not24 =
+      rw (
+        k .spaces .first,
+        k .spaces .others 0 (lit< tt),
+        k .spaces .others 1 (lit< tt),
+        k .spaces .others 2 (lit< tt),
+        k .spaces .others 3 (lit< tt),
+        k .spaces .others 4 (lit< tt),
+        k .spaces .others 5 (lit< tt),
+        k .spaces .others 6 (lit< tt),
+      )
+
+  not25 : indexTwice image ≡ false
+  unfolding twice some-below
+  not25 = ap (λ (n : ℕ). twice n (λ i. index image i)) (k .counts .addresses)
+
+  keeps : ruled image ≡ 0
+  unfolding ruled
+  keeps = rw (not20, not21, not22, not23, not24, not25)
+
 pub k-ruled : ruled (imageOf kTables) ≡ 0
-unfolding ruled incomplete layout number some-below first total twice kTables
-k-ruled = refl
+k-ruled = keeps (imageOf kTables) k-fields
 
 -- "answer 0 means loaded": the answer, and the image that K's tables fix
 pub k-loaded : loaded K ≡ record { number = 0; image = imageOf kTables }

@@ -1,13 +1,12 @@
 -- `crc_table::first` meets its contract: one test, computed over the whole table.
 use mathlib.Core.Path.{refl}
 use Rattle.crc.specs.Crc.{bit, bitsOut}
-use Rattle.crc_table.specs.Table.{entry}
 use Rattle.crc_table.specs.Test.{is-table}
 use Rattle.crc_table.proofs.first.Statement.{statement}
 use Rattle.crc_table.proofs.first.Tie as tie
 
 returns : tie.Need-returns
-unfolding bit bitsOut entry
+unfolding bit bitsOut
 returns c = is-table 3 _ tt refl
 
 pub first-spec : {M : Type 1} → statement M

@@ -1,13 +1,12 @@
 -- `crc_table::third` meets its contract: one test, computed over the whole table.
 use mathlib.Core.Path.{refl}
 use Rattle.crc.specs.Crc.{bit, bitsOut}
-use Rattle.crc_table.specs.Table.{entry}
 use Rattle.crc_table.specs.Test.{is-table}
 use Rattle.crc_table.proofs.third.Statement.{statement}
 use Rattle.crc_table.proofs.third.Tie as tie
 
 returns : tie.Need-returns
-unfolding bit bitsOut entry
+unfolding bit bitsOut
 returns c = is-table 1 _ tt refl
 
 pub third-spec : {M : Type 1} → statement M

@@ -1,4 +1,4 @@
--- `image_vectors::copy` is safe and ends: it stops where the image ends.
+-- `image_vectors::copy` is safe and ends: the words are tested to lie within the image.
 use Prim.Native.Nat.{_-_, _≤_}
 use mathlib.Core.Path.{_≡_}
 use lib.ListN.{length}
@@ -7,10 +7,10 @@ use Rattle.image_vectors.proofs.copy.Statement.{statement}
 use Rattle.image_vectors.proofs.copy.Tie as tie
 
 abbrev Inv-loop : tie.InvT-loop
-Inv-loop image₀ start «data» n at₀ i₀ image at i = (length image ≡ length image₀) × (i ≤ n)
+Inv-loop image₀ start «data» i₀ image i = (length image ≡ length image₀) × (i ≤ length «data»)
 
 abbrev μ-loop : tie.MeasureT-loop
-μ-loop image₀ start «data» n at₀ i₀ image at i = n - i
+μ-loop image₀ start «data» i₀ image i = length «data» - i
 
 pub copy-spec : {M : Type 1} → statement M
 copy-spec =
@@ -22,7 +22,8 @@ copy-spec =
     (λ c. search needs)
     (λ c. search needs)
     (λ c. search needs)
-    (λ c κs. search needs)
+    (λ c. search needs)
+    (λ c. search needs)
     (λ c. search needs)
     (λ c. search needs)
     (λ c. search needs)

@@ -5,10 +5,10 @@ use Rattle.image_vectors.proofs.print_forwarding.Statement.{statement}
 use Rattle.image_vectors.proofs.print_forwarding.Tie as tie
 
 abbrev Inv-loop : tie.InvT-loop
-Inv-loop image i n j₀ j = Unit {0}
+Inv-loop image i j₀ j = Unit {0}
 
 abbrev μ-loop : tie.MeasureT-loop
-μ-loop image i n j₀ j = 8 - j
+μ-loop image i j₀ j = 8 - j
 
 pub print-forwarding-spec : {M : Type 1} → statement M
 print-forwarding-spec =
@@ -16,13 +16,6 @@ print-forwarding-spec =
     (tie.spec
     Inv-loop
     μ-loop
-    (λ c. search needs)
-    (λ c κs. search needs)
-    (λ c κs. search needs)
-    (λ c. search needs)
-    (λ c. search needs)
-    (λ c. search needs)
-    (λ c κs. search needs)
     (λ c κs. search needs)
     (λ c κs. search needs)
     (λ c κs. search needs)
@@ -35,5 +28,4 @@ print-forwarding-spec =
     (λ c. search needs)
     (λ c. search needs)
     (λ c. search needs)
-    (λ c κs. search needs)
     (λ c. search needs))

@@ -5,10 +5,10 @@ use Rattle.image_vectors.proofs.print_spaces.Statement.{statement}
 use Rattle.image_vectors.proofs.print_spaces.Tie as tie
 
 abbrev Inv-loop : tie.InvT-loop
-Inv-loop image n j₀ j = Unit {0}
+Inv-loop image j₀ j = Unit {0}
 
 abbrev μ-loop : tie.MeasureT-loop
-μ-loop image n j₀ j = 8 - j
+μ-loop image j₀ j = 8 - j
 
 pub print-spaces-spec : {M : Type 1} → statement M
 print-spaces-spec =
@@ -18,14 +18,8 @@ print-spaces-spec =
     μ-loop
     (λ c. search needs)
     (λ c κs. search needs)
-    (λ c. search needs)
-    (λ c. search needs)
-    (λ c κs. search needs)
-    (λ c. search needs)
-    (λ c κs. search needs)
     (λ c κs. search needs)
     (λ c. search needs)
     (λ c. search needs)
     (λ c. search needs)
-    (λ c κs. search needs)
     (λ c. search needs))

@@ -1,5 +1,6 @@
--- `image_vectors::print_table` is safe and ends.
+-- `image_vectors::print_table` is safe and ends: each entry below the count is there.
 use Prim.Native.Nat.{_-_}
+use Rattle.image_vectors.specs.Fit.{held}
 use borrow.Author.Needs.{needs}
 use Rattle.image_vectors.proofs.print_table.Statement.{statement}
 use Rattle.image_vectors.proofs.print_table.Tie as tie
@@ -16,11 +17,12 @@ print-table-spec =
     (tie.spec
     Inv-loop
     μ-loop
-    (λ c. search needs)
-    (λ c. search needs)
+    (λ c κs. search needs)
     (λ c κs. search needs)
     (λ c. search needs)
-    (λ c κs. search needs)
+    (λ c. search needs)
+    (λ c. search needs)
+    (λ c κs. search (needs, held))
     (λ c. search needs)
     (λ c. search needs)
     (λ c. search needs)
