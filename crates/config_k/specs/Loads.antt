@@ -10,10 +10,11 @@ use borrow.Author.Tests.{lt-ltb}
 use Rattle.laws.specs.Scan.{some-below, first, total, twice}
 use Rattle.crc.specs.Crc.{bit, bitsOut, byteIn, bytesIn, bytesOf, wordIn, wordsIn, finished, checksum}
 use Rattle.image.specs.Layout.{imageOf}
-use Rattle.image.specs.Tables.{kindOf}
+use Rattle.tables.specs.Tables.{kindOf}
 use Rattle.image.specs.Fields.{vlanid, index}
 use Rattle.image.specs.Loaded.{incomplete}
-use Rattle.rules.specs.Rules.{vlanTwice, vlanMissing, sharindxBeyond, spaceOver, indexTwice, ruled}
+use Rattle.broken.specs.Broken.{vlanTwice, vlanMissing, sharindxBeyond, spaceOver, indexTwice}
+use Rattle.rules.specs.Rules.{ruled}
 use Rattle.stream.specs.Paper.{Outcome, passed, blocks, framed, refusedWith, outcomeOf, loaded}
 use Rattle.config_k.specs.Stream.{K}
 use Rattle.config_k.specs.Tables.{kTables}

@@ -13,8 +13,8 @@ use Rattle.crc.specs.Crc.{wordsIn}
 use Rattle.crc.specs.declared.Both.{Both}
 use Rattle.image.specs.Layout.{imageWords}
 use Rattle.image.specs.Loaded.{tooShort}
-use Rattle.image.specs.Tables.{indexOf}
-use Rattle.image.specs.declared.tables.Table.{Table}
+use Rattle.tables.specs.Tables.{indexOf}
+use Rattle.tables.specs.declared.Table.{Table}
 use Rattle.stream.specs.Machine.{filling, Written, wrote}
 use Rattle.stream.specs.Paper.{Whole}
 use Rattle.stream.specs.declared.Answer.{Answer}

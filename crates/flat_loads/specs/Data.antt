@@ -9,7 +9,7 @@ use lib.Seq.{sets}
 use Rattle.crc.specs.Crc.{wordsIn}
 use Rattle.image.specs.Layout.{imageWords}
 use Rattle.image.specs.Loaded.{tooShort}
-use Rattle.image.specs.Tables.{indexOf}
+use Rattle.tables.specs.Tables.{indexOf}
 use Rattle.one_block.specs.Data.{dataPlace}
 use Rattle.flat_numbers.specs.Flat.{low, joined, tableOf, loadIn, moved}
 

@@ -12,7 +12,7 @@ use Rattle.crc.specs.Crc.{wordIn, start}
 use Rattle.crc.specs.Laws.{wordIn-lt}
 use Rattle.image.specs.Layout.{imageIn}
 use Rattle.image.specs.Loaded.{tooShort}
-use Rattle.image.specs.declared.tables.Table.{Table}
+use Rattle.tables.specs.declared.Table.{Table}
 use Rattle.stream.specs.Machine.{Machine, at, told, stepIn, step, run, damaged, outside, untouched, written, opened, wrote}
 use Rattle.stream.specs.declared.Phase.{Phase}
 use Rattle.stream.specs.declared.Phase.the-variants.{Device, Id, Length, Sum, Data, Told}

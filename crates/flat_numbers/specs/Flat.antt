@@ -6,9 +6,9 @@ use Prim.Native.Nat.{ℕ, _+_, _-_, _*_, _/_, _%_}
 use lib.Dec.{ltb}
 use lib.ListN.{getD}
 use lib.Seq.{sets}
-use Rattle.image.specs.Tables.{indexOf, tables}
-use Rattle.image.specs.declared.tables.Table.{Table}
-use Rattle.image.specs.declared.tables.Table.the-variants.{AddressLookup}
+use Rattle.tables.specs.Tables.{indexOf, tables}
+use Rattle.tables.specs.declared.Table.{Table}
+use Rattle.tables.specs.declared.Table.the-variants.{AddressLookup}
 use Rattle.stream.specs.Machine.{fresh}
 use Rattle.stream.specs.declared.Answer.{Answer}
 use Rattle.stream.specs.declared.Answer.the-variants.{More, Loaded, Refused}

@@ -3,9 +3,9 @@
 // upper half of the second number is no part of the state.
 // The phase is 0 for word 0, which is also a load not yet begun; 1, 2, 3 for a block's two header words and their checksum; 4 for its data
 // and their checksum; 5 once an answer has been told, which is `told`. The table is 0 to 8 in ascending block ID.
-use image::tables::Table;
 use stream::Answer;
 use stream::Phase;
+use tables::Table;
 ghost use mathlib.Core.Path.{_≡_};
 ghost use Prim.Native.Nat.{_<_};
 ghost use Rattle.flat_numbers.specs.Flat.{low, high, joined, phaseNumber, toldIn, phaseOf, tableOf, isLoad, numberOf, FreshLoad};

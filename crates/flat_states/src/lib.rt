@@ -24,7 +24,7 @@ pub fn store(numbers: &mut [u64; 6], load: Load)
     let told = told_in(high(numbers[0]), phase);
     let spare = high(numbers[1]);
     numbers[0] = joined(phase_number(phase), told);
-    numbers[1] = joined(image::tables::index_of(table) as u32, spare);
+    numbers[1] = joined(tables::index_of(table) as u32, spare);
     numbers[2] = load.placed as u64;
     numbers[3] = load.due as u64;
     numbers[4] = joined(load.first, load.second);

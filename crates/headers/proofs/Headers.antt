@@ -8,12 +8,12 @@ use lib.Dec.{ltb, eqb, lit≤}
 use lib.ListN.{getD}
 use borrow.Author.Tests.{eq-eqb, ne-eqb, lt-ltb, le-ltb}
 use Rattle.laws.specs.Chain.{hit, pass}
-use Rattle.image.specs.Rows.{sizeOf, mostOf}
-use Rattle.image.specs.Tables.{indexOf, kindOf, named, tables}
-use Rattle.image.specs.declared.tables.Table.{Table}
-use Rattle.image.specs.declared.tables.Table.the-variants.{AddressLookup, Policing, VlanLookup, Forwarding, MacConfiguration, LookupParameters, ForwardingParameters, GeneralParameters, XmiiModeParameters}
-use Rattle.image.specs.declared.tables.Block.{Block}
-use Rattle.image.specs.declared.tables.Block.the-variants.{Carried, NotCarried, Unknown}
+use Rattle.tables.specs.Rows.{sizeOf, mostOf}
+use Rattle.tables.specs.Tables.{indexOf, kindOf, named, tables}
+use Rattle.tables.specs.declared.Table.{Table}
+use Rattle.tables.specs.declared.Table.the-variants.{AddressLookup, Policing, VlanLookup, Forwarding, MacConfiguration, LookupParameters, ForwardingParameters, GeneralParameters, XmiiModeParameters}
+use Rattle.tables.specs.declared.Block.{Block}
+use Rattle.tables.specs.declared.Block.the-variants.{Carried, NotCarried, Unknown}
 use Rattle.stream.specs.Header.{wrong}
 use Rattle.stream.specs.Headers.{Kind, kind, table-index}
 use Rattle.stream.specs.Runs.{index-lt}

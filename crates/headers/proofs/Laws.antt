@@ -12,9 +12,9 @@ use Rattle.laws.specs.Chain.{hit, pass, hit-eq, pass-eq, hit-ne, pass-ne}
 use Rattle.crc.specs.Crc.{wordIn, wordsIn, start, finished, checksum}
 use Rattle.image.specs.Layout.{imageWords, imageIn, markAt}
 use Rattle.image.specs.Sound.{Within, Bounded, bounded}
-use Rattle.image.specs.Tables.{kindOf, tables}
-use Rattle.image.specs.declared.tables.Table.{Table}
-use Rattle.image.specs.declared.tables.Table.the-variants.{AddressLookup}
+use Rattle.tables.specs.Tables.{kindOf, tables}
+use Rattle.tables.specs.declared.Table.{Table}
+use Rattle.tables.specs.declared.Table.the-variants.{AddressLookup}
 use Rattle.rules.specs.Rules.{ruled}
 use Rattle.stream.specs.Header.{idOf, lengthOf, wrong}
 use Rattle.stream.specs.Machine.{at, told, filling, cleared, refuse, hadIn, finish, endedBy, begunBy, summed}

@@ -3,8 +3,8 @@ use mathlib.Core.Bool.{cond}
 use Prim.Native.Nat.{ℕ}
 use lib.Dec.{eqb}
 use lib.ListN.{getD}
-use Rattle.image.specs.Tables.{tables}
-use Rattle.image.specs.declared.tables.Table.the-variants.{AddressLookup}
+use Rattle.tables.specs.Tables.{tables}
+use Rattle.tables.specs.declared.Table.the-variants.{AddressLookup}
 use Rattle.stream.specs.Header.{wrong}
 use Rattle.headers.specs.declared.Header.{Header}
 use Rattle.headers.specs.declared.Header.the-variants.{Wrong, Right}

@@ -1,7 +1,7 @@
 // Word 0, a block's header and the stream's end: what numbers 1 to 6 and 8 are told for, the mark and the rules. The rules are run from here alone.
-use image::tables::Block;
-use image::tables::Table;
 use stream::Load;
+use tables::Block;
+use tables::Table;
 ghost use mathlib.Core.Path.{_≡_};
 ghost use mathlib.Core.List.{[], _∷_};
 ghost use Prim.Native.Nat.{_<_, _≤_};
@@ -9,7 +9,7 @@ ghost use lib.ListN.{length};
 ghost use Rattle.crc.specs.Crc.{checksum};
 ghost use Rattle.image.specs.Layout.{imageWords, imageIn};
 ghost use Rattle.image.specs.Sound.{Within};
-ghost use Rattle.image.specs.Tables.{kindOf, indexOf};
+ghost use Rattle.tables.specs.Tables.{kindOf, indexOf};
 ghost use Rattle.stream.specs.Header.{idOf};
 ghost use Rattle.stream.specs.Machine.{hadIn, finish, endedBy, begunBy, summed, startedBy};
 ghost use Rattle.states.specs.Leaves.{Leaves};
@@ -37,12 +37,12 @@ fn fits(image: &[u32], table: Table, n: usize) -> Header
     requires { ⌜ (imageWords ≤ length (now image)) × Within (imageIn (now image)) × (n < 16777216) ⌝ }
     ensures { λ r. ⌜ r ≡ headerOf (indexOf table) n (hadIn (now (image .entry)) (indexOf table)) ⌝ }
 {
-    let size = image::tables::size_of(table);
+    let size = tables::size_of(table);
     if n % size != 0 {
         return Header::Wrong(5);
     }
-    let most = image::tables::most_of(table);
-    let had = image::counts::count(image, image::tables::index_of(table));
+    let most = tables::most_of(table);
+    let had = image::counts::count(image, tables::index_of(table));
     if most < had + n / size {
         return Header::Wrong(6);
     }
@@ -54,7 +54,7 @@ fn header_of(image: &[u32], first: u32, n: usize) -> Header
     requires { ⌜ (imageWords ≤ length (now image)) × Within (imageIn (now image)) × (n < 16777216) ⌝ }
     ensures { λ r. ⌜ r ≡ headerOf (kindOf (idOf first)) n (hadIn (now (image .entry)) (kindOf (idOf first))) ⌝ }
 {
-    let block = image::tables::block_of(first / 16777216);
+    let block = tables::block_of(first / 16777216);
     match block {
         Block::Carried(table) => fits(image, table, n),
         Block::NotCarried => Header::Wrong(4),

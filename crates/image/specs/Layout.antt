@@ -3,7 +3,7 @@ use mathlib.Core.Path.{_≡_}
 use mathlib.Core.List.{List, [], _∷_, _++_}
 use Prim.Native.Nat.{ℕ, zero, suc, _+_, _-_, _*_, _/_, _<_, _≤_}
 use lib.ListN.{length, getD, take, drop, replicate}
-use Rattle.image.specs.Rows.{Row, rows, room, before, sizeOf, mostOf, baseOf}
+use Rattle.tables.specs.Rows.{Row, rows, room, before, sizeOf, mostOf, baseOf}
 
 -- 11,430 words of entries
 abbrev pub entryWords : ℕ

@@ -1,7 +1,5 @@
--- The nine tables, where each stands in the image, what their fields are, and when an image is not to be judged.
-pub mod Rows
+-- Where each table stands in the image, what their fields are, and when an image is not to be judged.
 pub mod Layout
-pub mod Tables
 pub mod Fields
 pub mod Loaded
 pub mod Laws

@@ -4,7 +4,7 @@ use mathlib.Core.List.{List, [], _∷_}
 use Prim.Native.Nat.{ℕ, zero, suc}
 use lib.Dec.{ltb, eqb}
 use lib.ListN.{length}
-use Rattle.image.specs.Rows.{Row, rows}
+use Rattle.tables.specs.Rows.{Row, rows}
 use Rattle.image.specs.Layout.{imageWords, countOf, markOf}
 
 -- 31: "image buffer too short"

@@ -8,7 +8,7 @@ use lib.Dec.{ltb, eqb, lit<}
 use lib.ListN.{length, getD}
 use borrow.Author.Tests.{ltb-false, eqb-true, eqb-false, not-false}
 use Rattle.laws.specs.Chain.{none-first, none-rest}
-use Rattle.image.specs.Rows.{Row, rows, blank, mostOf}
+use Rattle.tables.specs.Rows.{Row, rows, blank, mostOf}
 use Rattle.image.specs.Layout.{imageWords, imageIn, countOf, markOf, Held}
 use Rattle.image.specs.Loaded.{aboveFrom, overLimit, notSingle, incomplete, notLoaded}
 

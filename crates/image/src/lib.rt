@@ -7,5 +7,4 @@ pub mod forwarding;
 pub mod mac;
 pub mod parameters;
 pub mod policing;
-pub mod tables;
 pub mod vlan;

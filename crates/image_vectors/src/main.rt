@@ -13,14 +13,14 @@ use image::forwarding;
 use image::mac;
 use image::parameters;
 use image::policing;
-use image::tables::Block;
-use image::tables::Shape;
-use image::tables::block_of;
-use image::tables::index_of;
-use image::tables::shape_of;
 use image::vlan;
 use libc::STDIN_FILENO;
 use libc::STDOUT_FILENO;
+use tables::Block;
+use tables::Shape;
+use tables::block_of;
+use tables::index_of;
+use tables::shape_of;
 
 // Where the image has its counts, behind the entries.
 const COUNTS: usize = 11430;

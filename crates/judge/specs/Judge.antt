@@ -15,7 +15,7 @@ use Rattle.plan.specs.Plan.{planOf}
 use Rattle.settle.specs.declared.Verdict.{Verdict}
 use Rattle.settle.specs.declared.Verdict.the-variants.{Refused, Drop, Sent}
 use Rattle.settle.specs.Settle.{Judged, judged, carriedOut}
-use Rattle.settle.specs.Note.{isDrop, noted}
+use Rattle.note.specs.Note.{isDrop, noted}
 use Rattle.judge.specs.Refusal.{refusalOf}
 
 -- document 01's number for each case: the refusal's, the drop's, 0 for sent

@@ -25,8 +25,9 @@ use Rattle.plan.specs.Laws.{Sane, Follows, follows}
 use Rattle.settle.specs.declared.Verdict.{Verdict}
 use Rattle.settle.specs.declared.Verdict.the-variants.{Refused}
 use Rattle.settle.specs.Settle.{Judged, judged, carriedOut, Carries}
-use Rattle.settle.specs.Note.{isDrop, noted}
-use Rattle.settle.specs.Laws.{Countable, Runs, RunsAll}
+use Rattle.note.specs.Note.{isDrop, noted}
+use Rattle.settle.specs.Laws.{Runs, RunsAll}
+use Rattle.note.specs.Laws.{Countable}
 use Rattle.judge.specs.Refusal.{mistimed, unjudged, refusalOf}
 use Rattle.judge.specs.Judge.{numberOf, valuesOf, byEntry, planFor, notedOf, judgeOf, Judges}
 

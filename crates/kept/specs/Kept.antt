@@ -23,7 +23,7 @@ use Rattle.plan.specs.declared.Course.{Course}
 use Rattle.plan.specs.Laws.{Sane}
 use Rattle.settle.specs.declared.Held.{Held}
 use Rattle.settle.specs.Settle.{meterOf, settledBy, heldAt, stored, Judged}
-use Rattle.settle.specs.Note.{countsAt, noted}
+use Rattle.note.specs.Note.{countsAt, noted}
 use Rattle.judge.specs.Judge.{judgeOf}
 use Rattle.judge.specs.Laws.{Admitted}
 use Rattle.judge.specs.Cases.{spentAt, rowAfter, by-cases}

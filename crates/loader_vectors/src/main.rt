@@ -1,4 +1,4 @@
-// Loads each stream of standard input in every way and prints what each answers and leaves; writes go by `loader` and by `quick`, which must do the same. The files stdin and stdout were made from the independent second
+// Loads each stream of standard input in every way and prints what each answers and leaves. The files stdin and stdout were made from the independent second
 // program alone: tests/cases/src/bin/loader_vectors.rs made them and says how.
 ghost use Prim.Native.Nat.{_<_, _≤_};
 use libc::STDIN_FILENO;
@@ -71,16 +71,16 @@ fn least(a: usize, b: usize) -> usize
     if a < b { a } else { b }
 }
 
-// One write, word by word or by tables.
-fn write(by_tables: bool, buffer: &mut [u32], load: Load, words: &[u32]) -> Wrote {
-    if by_tables {
+// One of some writes: those of 64 words go by tables, all others word by word.
+fn write(most: usize, buffer: &mut [u32], load: Load, words: &[u32]) -> Wrote {
+    if most == 64 {
         return quick::write(buffer, load, words);
     }
     loader::write(buffer, load, words)
 }
 
 // Writes of `most` words until all are written, also past the answer. The last answer counts; "more" where there is no word.
-fn in_writes(by_tables: bool, buffer: &mut [u32], words: &[u32], most: usize) -> Answer
+fn in_writes(buffer: &mut [u32], words: &[u32], most: usize) -> Answer
     requires { ⌜ 0 < most ⌝ }
 {
     let mut load = states::fresh();
@@ -88,7 +88,7 @@ fn in_writes(by_tables: bool, buffer: &mut [u32], words: &[u32], most: usize) ->
     let mut at = 0;
     while at < words.len() {
         let end = at + least(most, words.len() - at);
-        let wrote = write(by_tables, buffer, load, &words[at..end]);
+        let wrote = write(most, buffer, load, &words[at..end]);
         load = wrote.load;
         answer = wrote.answer;
         at = end;
@@ -96,36 +96,12 @@ fn in_writes(by_tables: bool, buffer: &mut [u32], words: &[u32], most: usize) ->
     answer
 }
 
-// An answer's number; that of "more" is one that no refusal has.
-fn number(answer: Answer) -> u32 {
-    match answer {
-        Answer::More => 0xFFFF_FFFF,
-        Answer::Loaded => 0,
-        Answer::Refused(n) => n,
-    }
-}
-
-// Writes by tables, after those word by word: nothing is printed where both answer and leave the same, and else what no expected line has.
-fn by_tables(words: &[u32], most: usize, answer: Answer, sum: u32)
-    requires { ⌜ 0 < most ⌝ }
-{
-    let mut buffer = [FOUND; 11460];
-    let again = in_writes(true, &mut buffer, words, most);
-    if number(again) == number(answer) {
-        if crc::checksum(&buffer) == sum {
-            return;
-        }
-    }
-    report(b" by tables ", again, &buffer);
-}
-
 fn by_writes(way: &[u8], words: &[u32], most: usize)
     requires { ⌜ 0 < most ⌝ }
 {
     let mut buffer = [FOUND; 11460];
-    let answer = in_writes(false, &mut buffer, words, most);
+    let answer = in_writes(&mut buffer, words, most);
     report(way, answer, &buffer);
-    by_tables(words, most, answer, crc::checksum(&buffer));
 }
 
 // The ways that take words. A write of 65 is refused, and what follows it goes on.

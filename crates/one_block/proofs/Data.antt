@@ -12,8 +12,8 @@ use borrow.Author.Tests.{ltb-false}
 use Rattle.crc.specs.Crc.{wordsIn}
 use Rattle.image.specs.Layout.{imageWords, entryWords, imageIn}
 use Rattle.image.specs.Loaded.{overLimit}
-use Rattle.image.specs.Rows.{sizeOf, mostOf}
-use Rattle.image.specs.Tables.{indexOf}
+use Rattle.tables.specs.Rows.{sizeOf, mostOf}
+use Rattle.tables.specs.Tables.{indexOf}
 use Rattle.stream.specs.Bridge.{room-inside}
 use Rattle.stream.specs.Fine.{Roomy, undamaged-fine}
 use Rattle.stream.specs.Machine.{Machine, at, filling, placeIn, begun, overdueIn, beyond, damaged, outside, run, written, wrote}

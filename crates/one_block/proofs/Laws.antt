@@ -7,7 +7,7 @@ use lib.ListN.{length}
 use lib.Seq.{sets}
 use Rattle.crc.specs.Crc.{wordsIn}
 use Rattle.image.specs.Layout.{entryWords}
-use Rattle.image.specs.Tables.{indexOf}
+use Rattle.tables.specs.Tables.{indexOf}
 use Rattle.stream.specs.Machine.{at, filling, placeIn, stepIn, step, run}
 use Rattle.stream.specs.Runs.{run-data}
 use Rattle.stream.specs.declared.Phase.{Phase}

@@ -1,11 +1,11 @@
 // A write that brings data of one block alone: where its words go, and the copy of them. Only loads from C and Rust take data so.
-use image::tables::Table;
+use tables::Table;
 ghost use mathlib.Core.Path.{_≡_};
 ghost use Prim.Native.Nat.{_+_, _≤_};
 ghost use lib.ListN.{length};
 ghost use lib.Seq.{sets};
 ghost use Rattle.image.specs.Layout.{imageWords};
-ghost use Rattle.image.specs.Tables.{indexOf};
+ghost use Rattle.tables.specs.Tables.{indexOf};
 ghost use Rattle.one_block.specs.Data.{dataPlace};
 
 // Where a write's n words go inside a block, where they are data of this block alone and no test refuses them; else behind the image.

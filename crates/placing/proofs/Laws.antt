@@ -11,10 +11,10 @@ use borrow.Author.Tests.{leb-true}
 use Rattle.laws.specs.Scan.{every, every-at}
 use Rattle.laws.specs.Chain.{hit-eq, pass-eq, hit-ne, pass-ne}
 use Rattle.crc.specs.Crc.{wordIn, finished}
-use Rattle.image.specs.Rows.{sizeOf, mostOf, baseOf}
+use Rattle.tables.specs.Rows.{sizeOf, mostOf, baseOf}
 use Rattle.image.specs.Layout.{entryWords}
-use Rattle.image.specs.Tables.{indexOf}
-use Rattle.image.specs.declared.tables.Table.{Table}
+use Rattle.tables.specs.Tables.{indexOf}
+use Rattle.tables.specs.declared.Table.{Table}
 use Rattle.stream.specs.Machine.{Machine, at, idle, filling, refuse, hadIn, placeIn, filled}
 use Rattle.placing.specs.Places.{RoomOf}
 use Rattle.stream.specs.Runs.{index-lt}

@@ -1,13 +1,13 @@
 // Where a block's data go, and what they come to: 7 and a table's count.
-use image::tables::Table;
 use stream::Load;
+use tables::Table;
 ghost use mathlib.Core.Path.{_≡_};
 ghost use Prim.Native.Nat.{_+_, _*_, _/_, _≤_};
 ghost use lib.ListN.{length};
 ghost use Rattle.image.specs.Layout.{imageWords, entryWords, imageIn};
-ghost use Rattle.image.specs.Rows.{sizeOf, mostOf};
+ghost use Rattle.tables.specs.Rows.{sizeOf, mostOf};
 ghost use Rattle.image.specs.Sound.{Within};
-ghost use Rattle.image.specs.Tables.{indexOf};
+ghost use Rattle.tables.specs.Tables.{indexOf};
 ghost use Rattle.stream.specs.Fine.{Roomy};
 ghost use Rattle.stream.specs.Machine.{hadIn, placeIn, filled};
 ghost use Rattle.stream.specs.declared.Phase.the-variants.{Data};
@@ -25,8 +25,8 @@ pub fn room_of(image: &[u32], table: Table) -> Room
     requires { ⌜ hadIn (now image) (indexOf table) * sizeOf (indexOf table) ≤ mostOf (indexOf table) * sizeOf (indexOf table) ⌝ }
     ensures { λ r. ⌜ RoomOf (now (image .entry)) (indexOf table) r ⌝ }
 {
-    let shape = image::tables::shape_of(table);
-    let had = image::counts::count(image, image::tables::index_of(table));
+    let shape = tables::shape_of(table);
+    let had = image::counts::count(image, tables::index_of(table));
     Room {
         place: shape.base + had * shape.size,
         left: shape.most * shape.size - had * shape.size,
@@ -48,8 +48,8 @@ fn raised(image: &[u32], table: Table, placed: usize) -> u32
     requires { ⌜ hadIn (now image) (indexOf table) * sizeOf (indexOf table) + placed ≤ mostOf (indexOf table) * sizeOf (indexOf table) ⌝ }
     ensures { λ r. ⌜ r ≡ hadIn (now (image .entry)) (indexOf table) + placed / sizeOf (indexOf table) ⌝ }
 {
-    let size = image::tables::size_of(table);
-    let had = image::counts::count(image, image::tables::index_of(table));
+    let size = tables::size_of(table);
+    let had = image::counts::count(image, tables::index_of(table));
     (had + placed / size) as u32
 }
 
@@ -66,7 +66,7 @@ pub fn filled(image: &mut [u32], load: Load, w: u32) -> Load
             return states::refuse(image, 7);
         }
         let count = raised(image, table, placed);
-        image[11430 + image::tables::index_of(table)] = count;
+        image[11430 + tables::index_of(table)] = count;
         return states::idle(crc::word_in(load.stream, w));
     }
     let place = place_of(image, table, placed, due);

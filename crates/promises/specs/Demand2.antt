@@ -22,8 +22,8 @@ use Rattle.plan.specs.Laws.{Sane}
 use Rattle.settle.specs.declared.Verdict.{Verdict}
 use Rattle.settle.specs.declared.Verdict.the-variants.{Refused, Drop, Sent}
 use Rattle.settle.specs.Settle.{Judged}
-use Rattle.settle.specs.Note.{countsAt, noted}
-use Rattle.settle.specs.Laws.{counts-kept}
+use Rattle.note.specs.Note.{countsAt, noted}
+use Rattle.note.specs.Laws.{counts-kept}
 use Rattle.judge.specs.Judge.{judgeOf}
 use Rattle.judge.specs.Laws.{Admitted, runs}
 use Rattle.judge.specs.Cases.{rowAfter, by-cases}

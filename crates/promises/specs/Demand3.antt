@@ -19,7 +19,7 @@ use Rattle.stream.specs.Ends.{Reached, final}
 use Rattle.stream.specs.Cutting.{writes, unwritten, words, Cuts, cut-reached}
 use Rattle.stream.specs.Order.{Piece, streamed, All, brings, ordered, same-lists, after}
 use Rattle.stream.specs.Header.{lengthOf}
-use Rattle.image.specs.Rows.{rowOf, room}
+use Rattle.tables.specs.Rows.{rowOf, room}
 use Rattle.stream.specs.Machine.{written}
 use Rattle.ledger.specs.declared.Answer.{Answer}
 use Rattle.ledger.specs.Answers.{answerOf}

@@ -10,8 +10,8 @@ use lib.Dec.{ltb, eqb}
 use lib.ListN.{length, getD, take, drop, length-drop}
 use borrow.Author.Tests.{eqb-true, eqb-false, eq-eqb, ne-eqb}
 use Rattle.crc.specs.Crc.{checksum}
-use Rattle.image.specs.Rows.{sizeOf, mostOf}
-use Rattle.image.specs.Tables.{kindOf}
+use Rattle.tables.specs.Rows.{sizeOf, mostOf}
+use Rattle.tables.specs.Tables.{kindOf}
 use Rattle.promises.specs.First.{Test, test, First, firstOf, first-is, same-first}
 use Rattle.promises.specs.Ids.{kinds, unknownId, otherId, carriedId}
 use Rattle.stream.specs.Header.{device, idOf, lengthOf, wrong}

@@ -9,10 +9,10 @@ use lib.Dec.{eqb}
 use lib.ListN.{length, getD, take, drop, length-take, length-drop}
 use borrow.Author.Tests.{eqb-true, not-false}
 use Rattle.crc.specs.Crc.{checksum}
-use Rattle.image.specs.Rows.{sizeOf}
+use Rattle.tables.specs.Rows.{sizeOf}
 use Rattle.image.specs.Layout.{countOf, entryOf, imageOf}
 use Rattle.image.specs.Images.{layout-count, layout-entry}
-use Rattle.image.specs.Tables.{kindOf}
+use Rattle.tables.specs.Tables.{kindOf}
 use Rattle.rules.specs.Rules.{ruled}
 use Rattle.stream.specs.Header.{device, idOf, lengthOf, wrong}
 use Rattle.stream.specs.Headers.{Right, right, kind}

@@ -6,8 +6,8 @@ use Prim.Native.Nat.{ℕ}
 use lib.Dec.{ltb, eqb}
 use borrow.Author.Tests.{eqb-true, eqb-false, ne-eqb, not-true}
 use Rattle.laws.specs.Scan.{first, first-none, first-more}
-use Rattle.image.specs.Rows.{rowOf, table2}
-use Rattle.image.specs.Tables.{listed, kindOf}
+use Rattle.tables.specs.Rows.{rowOf, table2}
+use Rattle.tables.specs.Tables.{listed, kindOf}
 
 -- "the table above": document 01's nine IDs
 abbrev pub carriedIds : List ℕ

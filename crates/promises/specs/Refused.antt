@@ -13,7 +13,7 @@ use Rattle.laws.specs.Chain.{pass}
 use Rattle.crc.specs.Crc.{checksum, finished}
 use Rattle.image.specs.Layout.{imageWords, imageIn, imageOf, markAt}
 use Rattle.image.specs.Loaded.{tooShort, overLimit}
-use Rattle.image.specs.Tables.{kindOf}
+use Rattle.tables.specs.Tables.{kindOf}
 use Rattle.rules.specs.Rules.{ruled}
 use Rattle.stream.specs.declared.Answer.{Answer}
 use Rattle.stream.specs.declared.Answer.the-variants.{More, Loaded, Refused}

@@ -28,8 +28,8 @@ use Rattle.plan.specs.Laws.{Sane}
 use Rattle.settle.specs.declared.Verdict.{Verdict}
 use Rattle.settle.specs.declared.Verdict.the-variants.{Refused, Drop, Sent}
 use Rattle.settle.specs.Settle.{meterOf, heldAt, Judged}
-use Rattle.settle.specs.Note.{noted}
-use Rattle.settle.specs.Proved.{units-kept}
+use Rattle.note.specs.Note.{noted}
+use Rattle.note.specs.Proved.{units-kept}
 use Rattle.judge.specs.Judge.{planFor, judgeOf}
 use Rattle.judge.specs.Laws.{Admitted, runs}
 use Rattle.judge.specs.Cases.{spentAt, rowAfter, by-cases}

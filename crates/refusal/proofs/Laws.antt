@@ -8,7 +8,7 @@ use lib.Dec.{ltb}
 use native.Mathlib.Omega.{arith}
 use lib.ListN.{length}
 use borrow.Author.Tests.{ltb-true, ltb-false, lt-ltb, le-ltb}
-use Rattle.image.specs.Rows.{sizeOf, mostOf}
+use Rattle.tables.specs.Rows.{sizeOf, mostOf}
 use Rattle.image.specs.Layout.{imageWords, imageIn}
 use Rattle.image.specs.Loaded.{tooShort}
 use Rattle.stream.specs.Machine.{hadIn, beyond, outside}

@@ -1,15 +1,15 @@
 // What refuses a write before one of its words is looked at: 31, 30 and 32. 30 is what every place in the image rests on. Also what a load's first write
 // zeroes.
-use image::tables::Table;
 use stream::Load;
 use stream::Phase;
+use tables::Table;
 ghost use mathlib.Core.Path.{_≡_};
 ghost use Prim.Native.Nat.{_+_, _≤_};
 ghost use lib.Dec.{ltb};
 ghost use lib.ListN.{length};
 ghost use Rattle.image.specs.Layout.{imageWords, imageIn};
 ghost use Rattle.image.specs.Sound.{Within};
-ghost use Rattle.image.specs.Tables.{indexOf};
+ghost use Rattle.tables.specs.Tables.{indexOf};
 ghost use Rattle.stream.specs.Machine.{at, beyond, overdueIn, damaged, outside, opened};
 ghost use Rattle.refusal.specs.Refusal.{writeRefusal};
 

@@ -1,3 +1,2 @@
--- The loading rules 20 to 25, and the first one broken.
+-- The loading rules 20 to 25 in their order, and the first one broken.
 pub mod Rules
-pub mod Proved

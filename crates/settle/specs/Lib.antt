@@ -1,5 +1,4 @@
--- Steps 9 to 11 on the row, and what every verdict notes there.
+-- Steps 9 to 11 on the row.
 pub mod Settle
-pub mod Note
 pub mod Laws
 pub mod Proved

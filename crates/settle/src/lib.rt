@@ -1,7 +1,5 @@
 // Steps 9 to 11: on the few numbers that a course concerns, and on the row, of which those are loaded and stored. What is noted of a frame is
-// apart (`note`): what is sent beside it spends and is not noted.
-pub mod note;
-
+// not here (`note`).
 use ledger::CELLS;
 use ledger::CREDIT;
 use ledger::SINCE;

@@ -1,8 +1,8 @@
 // Load states, answers, and what a refusal leaves: what each way of loading comes to. Nothing of another crate is called here, so that an edit of these checks little.
-use image::tables::Table;
 use stream::Answer;
 use stream::Load;
 use stream::Phase;
+use tables::Table;
 ghost use mathlib.Core.Path.{_≡_};
 ghost use Prim.Native.Nat.{_≤_};
 ghost use lib.ListN.{length};

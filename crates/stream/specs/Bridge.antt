@@ -13,12 +13,12 @@ use borrow.Author.Tests.{ltb-true, leb-true, eqb-true, not-false}
 use Rattle.crc.specs.Crc.{wordIn, wordsIn, start, finished, checksum}
 use Rattle.crc.specs.Laws.{wordsIn-append}
 use Rattle.laws.specs.Scan.{every, every-at}
-use Rattle.image.specs.Rows.{Row, rows, blank, room, before, rowOf, sizeOf, mostOf, baseOf}
+use Rattle.tables.specs.Rows.{Row, rows, blank, room, before, rowOf, sizeOf, mostOf, baseOf}
 use Rattle.image.specs.Layout.{imageWords, entryWords, imageIn, padded, entriesFrom, countsFrom, layout, countOf, countAt, markAt}
 use Rattle.image.specs.Images.{length-layout, layout-count}
-use Rattle.image.specs.Tables.{indexOf, tables, kindOf}
-use Rattle.image.specs.declared.tables.Table.{Table}
-use Rattle.image.specs.declared.tables.Table.the-variants.{AddressLookup}
+use Rattle.tables.specs.Tables.{indexOf, tables, kindOf}
+use Rattle.tables.specs.declared.Table.{Table}
+use Rattle.tables.specs.declared.Table.the-variants.{AddressLookup}
 use Rattle.rules.specs.Rules.{ruled}
 use Rattle.stream.specs.Header.{device, idOf, lengthOf, wrong}
 use Rattle.stream.specs.Headers.{Kind, kind, table-index, Right, right, right-room, whole-entries, same-wrong}

@@ -10,7 +10,7 @@ use Rattle.laws.specs.Chain.{pass}
 use Rattle.crc.specs.Crc.{finished, checksum}
 use Rattle.image.specs.Layout.{imageWords, imageIn, markAt}
 use Rattle.image.specs.Loaded.{tooShort}
-use Rattle.image.specs.Tables.{kindOf}
+use Rattle.tables.specs.Tables.{kindOf}
 use Rattle.rules.specs.Rules.{ruled}
 use Rattle.stream.specs.Header.{device, idOf, lengthOf, wrong}
 use Rattle.stream.specs.Paper.{framed}

@@ -7,7 +7,7 @@ use native.Mathlib.Omega.{arith}
 use lib.Dec.{eqb}
 use lib.ListN.{length, getD, set, drop, replicate}
 use lib.Seq.{sets, set-append-left, set-at, drop-at}
-use Rattle.image.specs.Rows.{rows}
+use Rattle.tables.specs.Rows.{rows}
 use Rattle.image.specs.Layout.{imageWords, entryWords, imageIn, entriesFrom, countsFrom, layout, imageOf, markAt}
 use Rattle.image.specs.Images.{length-layout, length-entries, length-counts}
 use Rattle.rules.specs.Rules.{ruled}

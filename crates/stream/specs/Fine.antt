@@ -12,14 +12,14 @@ use lib.ListN.{length, getD, set, take, drop, replicate, length-append, length-s
 use lib.Seq.{getD-set-same, getD-set-other}
 use borrow.Author.Tests.{le-ltb, ltb-false, eqb-true, eqb-false, not-false}
 use Rattle.laws.specs.Chain.{none-first, none-rest}
-use Rattle.image.specs.Rows.{Row, rows, blank, rowOf, sizeOf, mostOf, baseOf, room}
+use Rattle.tables.specs.Rows.{Row, rows, blank, rowOf, sizeOf, mostOf, baseOf, room}
 use Rattle.image.specs.Layout.{imageWords, entryWords, imageIn, countOf, countAt, markAt}
 use Rattle.image.specs.Laws.{getD-in}
 use Rattle.image.specs.Loaded.{aboveFrom, overLimit}
 use Rattle.image.specs.Sound.{Within, within-limits}
-use Rattle.image.specs.Tables.{indexOf, tables, kindOf}
-use Rattle.image.specs.declared.tables.Table.{Table}
-use Rattle.image.specs.declared.tables.Table.the-variants.{AddressLookup}
+use Rattle.tables.specs.Tables.{indexOf, tables, kindOf}
+use Rattle.tables.specs.declared.Table.{Table}
+use Rattle.tables.specs.declared.Table.the-variants.{AddressLookup}
 use Rattle.rules.specs.Rules.{ruled}
 use Rattle.stream.specs.Header.{device, idOf, lengthOf, wrong}
 use Rattle.stream.specs.Headers.{kind, table-index, Right, right, right-room}

@@ -3,7 +3,7 @@ use mathlib.Core.Bool.{Bool, cond, not}
 use mathlib.Core.List.{List}
 use Prim.Native.Nat.{ℕ, _+_, _/_, _%_}
 use lib.Dec.{ltb, eqb}
-use Rattle.image.specs.Rows.{sizeOf, mostOf}
+use Rattle.tables.specs.Rows.{sizeOf, mostOf}
 
 -- "Word 0 is 9E00030E"
 abbrev pub device : ℕ

@@ -10,9 +10,9 @@ use lib.Dec.{ltb, eqb}
 use lib.ListN.{getD}
 use borrow.Author.Tests.{ltb-true, ltb-false, eqb-true, not-false, ne-eqb}
 use Rattle.laws.specs.Scan.{every, every-at, first}
-use Rattle.image.specs.Rows.{rowOf, sizeOf, mostOf, table2}
-use Rattle.image.specs.Tables.{indexOf, tables, listed, kindOf}
-use Rattle.image.specs.declared.tables.Table.the-variants.{AddressLookup}
+use Rattle.tables.specs.Rows.{rowOf, sizeOf, mostOf, table2}
+use Rattle.tables.specs.Tables.{indexOf, tables, listed, kindOf}
+use Rattle.tables.specs.declared.Table.the-variants.{AddressLookup}
 use Rattle.stream.specs.Header.{wrong}
 
 -- a kind is a table's, or 9, or 10

@@ -5,12 +5,12 @@ use Prim.Native.Nat.{ℕ, zero, suc, _+_, _-_, _*_, _/_}
 use lib.Dec.{ltb, eqb}
 use lib.ListN.{length, getD, set, drop, replicate}
 use Rattle.crc.specs.Crc.{wordIn, start, finished, checksum}
-use Rattle.image.specs.Rows.{sizeOf, mostOf, baseOf}
+use Rattle.tables.specs.Rows.{sizeOf, mostOf, baseOf}
 use Rattle.image.specs.Layout.{imageWords, imageIn, countOf, countAt, markAt}
 use Rattle.image.specs.Loaded.{tooShort, overLimit}
-use Rattle.image.specs.Tables.{indexOf, kindOf, tables}
-use Rattle.image.specs.declared.tables.Table.{Table}
-use Rattle.image.specs.declared.tables.Table.the-variants.{AddressLookup}
+use Rattle.tables.specs.Tables.{indexOf, kindOf, tables}
+use Rattle.tables.specs.declared.Table.{Table}
+use Rattle.tables.specs.declared.Table.the-variants.{AddressLookup}
 use Rattle.rules.specs.Rules.{ruled}
 use Rattle.stream.specs.Header.{device, idOf, lengthOf, wrong}
 use Rattle.stream.specs.Paper.{numbered}

@@ -12,8 +12,8 @@ use lib.Seq.{take-at, drop-at, ext-getD}
 use borrow.Author.Tests.{eq-eqb, ne-eqb, le-ltb}
 use Rattle.laws.specs.Chain.{pass}
 use Rattle.crc.specs.Crc.{checksum}
-use Rattle.image.specs.Rows.{rowOf, room, sizeOf, mostOf}
-use Rattle.image.specs.Tables.{kindOf}
+use Rattle.tables.specs.Rows.{rowOf, room, sizeOf, mostOf}
+use Rattle.tables.specs.Tables.{kindOf}
 use Rattle.stream.specs.Header.{device, idOf, lengthOf, wrong}
 use Rattle.stream.specs.Headers.{Right, whole-entries}
 use Rattle.stream.specs.Paper.{Framed, refused, passed, none, put, had, checked, blocks, framed}

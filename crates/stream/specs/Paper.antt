@@ -5,9 +5,9 @@ use Prim.Native.Nat.{ℕ, zero, suc, _+_, _*_, _/_, _%_}
 use lib.Dec.{eqb}
 use lib.ListN.{length, getD, take, drop, set, replicate}
 use Rattle.crc.specs.Crc.{checksum}
-use Rattle.image.specs.Rows.{sizeOf}
+use Rattle.tables.specs.Rows.{sizeOf}
 use Rattle.image.specs.Layout.{imageWords, imageOf}
-use Rattle.image.specs.Tables.{kindOf}
+use Rattle.tables.specs.Tables.{kindOf}
 use Rattle.rules.specs.Rules.{ruled}
 use Rattle.image.specs.Loaded.{tooShort}
 use Rattle.stream.specs.declared.Answer.{Answer}

@@ -1,6 +1,6 @@
 -- Rows (c), (d) and (e) of document 01's proved table: the length of a block of 07, with no entry there yet.
 use mathlib.Core.Path.{_≡_, refl}
-use Rattle.image.specs.Tables.{kindOf}
+use Rattle.tables.specs.Tables.{kindOf}
 use Rattle.laws.specs.Scan.{first}
 use Rattle.stream.specs.Header.{wrong}
 

@@ -12,12 +12,12 @@ use lib.ListN.{length, getD, set, take, drop, length-set}
 use lib.Seq.{sets, getD-set-other, drop-set-lt, length-sets}
 use borrow.Author.Tests.{ne-eqb}
 use Rattle.crc.specs.Crc.{wordIn, wordsIn}
-use Rattle.image.specs.Rows.{sizeOf, baseOf}
+use Rattle.tables.specs.Rows.{sizeOf, baseOf}
 use Rattle.image.specs.Layout.{imageWords, entryWords, imageIn, countAt}
 use Rattle.image.specs.Laws.{getD-in}
-use Rattle.image.specs.Tables.{indexOf}
-use Rattle.image.specs.declared.tables.Table.{Table}
-use Rattle.image.specs.declared.tables.Table.the-variants.{AddressLookup, Policing, VlanLookup, Forwarding, MacConfiguration, LookupParameters, ForwardingParameters, GeneralParameters, XmiiModeParameters}
+use Rattle.tables.specs.Tables.{indexOf}
+use Rattle.tables.specs.declared.Table.{Table}
+use Rattle.tables.specs.declared.Table.the-variants.{AddressLookup, Policing, VlanLookup, Forwarding, MacConfiguration, LookupParameters, ForwardingParameters, GeneralParameters, XmiiModeParameters}
 use Rattle.stream.specs.Machine.{Machine, at, filling, filled, told, stepIn, step, run, hadIn, placeIn}
 use Rattle.stream.specs.declared.Phase.{Phase}
 use Rattle.stream.specs.declared.Phase.the-variants.{Data, Told}

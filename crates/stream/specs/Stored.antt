@@ -7,7 +7,7 @@ use native.Mathlib.Nat.{add-zero, zero-add, add-suc, suc-add, le-of-suc-le-suc, 
 use native.Mathlib.Omega.{arith}
 use lib.ListN.{length, getD, take, drop, set, replicate, length-append, length-set}
 use lib.Seq.{sets, take-append-add, getD-set-same, getD-set-other}
-use Rattle.image.specs.Rows.{Row, rows, blank, room, before, sizeOf, baseOf}
+use Rattle.tables.specs.Rows.{Row, rows, blank, room, before, sizeOf, baseOf}
 use Rattle.image.specs.Layout.{padded, entriesFrom, countsFrom, layout, entryWords, countAt}
 use Rattle.image.specs.Images.{length-entries}
 use Rattle.stream.specs.Paper.{put}

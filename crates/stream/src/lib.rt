@@ -1,5 +1,7 @@
 // What loading is: the types of a load's state and answer. Their meaning stands in specs/, in the paper's form and in the machine's, with the bridge between them.
-use image::tables::Table;
+pub mod bytes;
+
+use tables::Table;
 
 // What a write or a whole load answers. Its number in document 01 is told by `numbered` in specs/.
 pub enum Answer {

@@ -9,7 +9,6 @@ ghost use Prim.Native.Nat.{_+_, _<_, _≤_};
 ghost use lib.ListN.{length};
 ghost use Rattle.crc_long.specs.Turn.{AreTables};
 ghost use Rattle.image.specs.Layout.{imageWords};
-ghost use Rattle.stream.specs.Bytes.{wordAt};
 ghost use Rattle.stream.specs.Fine.{Roomy, Fine};
 ghost use Rattle.stream.specs.Machine.{at, fresh, cleared, run};
 ghost use Rattle.stream.specs.Paper.{loadedWords, wordsOf, loadedBytes};
@@ -145,21 +144,6 @@ pub fn load_words(image: &mut [u32], words: &[u32]) -> Answer
     states::settle(image, end)
 }
 
-fn octet(x: u8) -> u32
-    ensures { λ r. ⌜ (r ≡ x) × (r < 256) ⌝ }
-{
-    x as u32
-}
-
-// The word whose most significant byte stands at i.
-fn word_at(bytes: &[u8], i: usize) -> u32
-    requires { ⌜ i + 4 ≤ length (now bytes) ⌝ }
-    ensures { λ r. ⌜ r ≡ wordAt (now (bytes .entry)) i ⌝ }
-{
-    ((octet(bytes[i]) * 256 + octet(bytes[i + 1])) * 256 + octet(bytes[i + 2])) * 256
-        + octet(bytes[i + 3])
-}
-
 // Bytes of 256 words at most: their words first, then these at once.
 fn chunk_run(image: &mut [u32], load: Load, bytes: &[u8]) -> Load
     requires { ⌜ Fine (at load (now image)) × (length (now bytes) ≤ 1024) ⌝ }
@@ -168,7 +152,7 @@ fn chunk_run(image: &mut [u32], load: Load, bytes: &[u8]) -> Load
     let mut words = [0; 256];
     let mut k: usize = 0;
     while 4 <= bytes.len() - 4 * k {
-        words[k] = word_at(bytes, 4 * k);
+        words[k] = stream::bytes::word_at(bytes, 4 * k);
         k += 1;
     }
     quick::run(image, load, &words[..k])

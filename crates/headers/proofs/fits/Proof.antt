@@ -6,8 +6,8 @@ use native.Mathlib.Nat.{div-le-self}
 use native.Mathlib.Omega.{arith}
 use borrow.Author.Needs.{needs}
 use denote.Ref.{now}
-use Rattle.image.specs.Tables.{indexOf}
-use Rattle.image.specs.declared.tables.Table.{Table}
+use Rattle.tables.specs.Tables.{indexOf}
+use Rattle.tables.specs.declared.Table.{Table}
 use Rattle.stream.specs.Machine.{hadIn}
 use Rattle.headers.specs.Header.{headerOf}
 use Rattle.headers.specs.declared.Header.{Header}

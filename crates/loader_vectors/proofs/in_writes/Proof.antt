@@ -7,10 +7,10 @@ use Rattle.loader_vectors.proofs.in_writes.Statement.{statement}
 use Rattle.loader_vectors.proofs.in_writes.Tie as tie
 
 abbrev Inv-loop : tie.InvT-loop
-Inv-loop by-tables buffer₀ words most load₀ answer₀ at₀ buffer load answer at = (at ≤ length words) × (length buffer ≡ length buffer₀)
+Inv-loop buffer₀ words most load₀ answer₀ at₀ buffer load answer at = (at ≤ length words) × (length buffer ≡ length buffer₀)
 
 abbrev μ-loop : tie.MeasureT-loop
-μ-loop by-tables buffer₀ words most load₀ answer₀ at₀ buffer load answer at = length words - at
+μ-loop buffer₀ words most load₀ answer₀ at₀ buffer load answer at = length words - at
 
 pub in-writes-spec : {M : Type 1} → statement M
 in-writes-spec =

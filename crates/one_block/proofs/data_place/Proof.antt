@@ -8,9 +8,9 @@ use borrow.Author.Tests.{ltb-false}
 use denote.Ref.{now}
 use Rattle.laws.specs.Chain.{hit, pass, pass-lt, chain}
 use Rattle.image.specs.Layout.{imageIn}
-use Rattle.image.specs.Rows.{sizeOf}
+use Rattle.tables.specs.Rows.{sizeOf}
 use Rattle.image.specs.Sound.{within-limits}
-use Rattle.image.specs.Tables.{indexOf}
+use Rattle.tables.specs.Tables.{indexOf}
 use Rattle.stream.specs.Machine.{beyond}
 use Rattle.stream.specs.Runs.{index-lt}
 use Rattle.one_block.specs.Data.{dataPlace}

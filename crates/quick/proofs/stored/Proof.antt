@@ -4,8 +4,8 @@ use native.Mathlib.Nat.{mul-comm}
 use native.Mathlib.Omega.{arith}
 use borrow.Author.Needs.{needs}
 use denote.Ref.{now}
-use Rattle.image.specs.Rows.{sizeOf, mostOf}
-use Rattle.image.specs.Tables.{indexOf}
+use Rattle.tables.specs.Rows.{sizeOf, mostOf}
+use Rattle.tables.specs.Tables.{indexOf}
 use Rattle.stream.specs.Bridge.{room-inside}
 use Rattle.stream.specs.Runs.{index-lt}
 use Rattle.states.proofs.Laws.{so}

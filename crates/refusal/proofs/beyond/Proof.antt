@@ -3,8 +3,8 @@ use mathlib.Core.Path.{_∙_}
 use native.Mathlib.Nat.{mul-le-mul-right}
 use borrow.Author.Needs.{needs}
 use denote.Ref.{now}
-use Rattle.image.specs.Rows.{sizeOf}
-use Rattle.image.specs.Tables.{indexOf}
+use Rattle.tables.specs.Rows.{sizeOf}
+use Rattle.tables.specs.Tables.{indexOf}
 use Rattle.stream.specs.Runs.{index-lt}
 use Rattle.refusal.proofs.Laws.{beyond-is}
 use Rattle.refusal.proofs.beyond.Statement.{statement}

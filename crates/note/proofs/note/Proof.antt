@@ -1,0 +1,40 @@
+-- `note::note`: the counts that the spending gives, and the time.
+use mathlib.Core.Path.{ap}
+use borrow.Author.Needs.{needs}
+use denote.Ref.{now}
+use Rattle.note.specs.Note.{withCounts, noted}
+use Rattle.note.proofs.note.Statement.{statement}
+use Rattle.note.proofs.note.Tie as tie
+
+pub note-spec : {M : Type 1} → statement M
+unfolding noted
+note-spec =
+    tie.close
+    (tie.spec
+    (λ c. search needs)
+    (λ c. search needs)
+    (λ c. search needs)
+    (λ c. search needs)
+    (λ c. search needs)
+    (λ c. search needs)
+    (λ c. search needs)
+    (λ c. search needs)
+    (λ c. search needs)
+    (λ c. search needs)
+    (λ c. search needs)
+    (λ c. search needs)
+    (λ c κs. search needs)
+    (λ c. search needs)
+    (λ c. search needs)
+    (λ c. search needs)
+    (λ c. search needs)
+    (λ c. search needs)
+    (λ c. search needs)
+    (λ c. search needs)
+    (λ c. search needs)
+    (λ c. search needs)
+    (λ c. search needs)
+    (λ c. search needs)
+    (λ c. search needs)
+    (λ c. search needs)
+    (λ c. let s = c .before .before .before .before .before .args in ap (withCounts (now (s .row)) (s .port) (s .time)) (c .counted .ensures)))

@@ -1,0 +1,4 @@
+-- What every verdict notes in the row.
+pub mod Note
+pub mod Laws
+pub mod Proved
