@@ -1,10 +1,10 @@
 // The loading rules after 20, one function and one pass each: is it broken? Which is asked first is said in `rules`.
-use image::counts::count;
+use layout::count;
 ghost use mathlib.Core.Path.{_≡_};
 ghost use mathlib.Core.Bool.{cond};
 ghost use Prim.Native.Nat.{_<_};
 ghost use lib.ListN.{length};
-ghost use Rattle.image.specs.Layout.{imageIn, countOf};
+ghost use Rattle.layout.specs.Layout.{imageIn, countOf};
 ghost use Rattle.image.specs.Sound.{Bounded};
 ghost use Rattle.image.specs.Fields.{vlanid};
 ghost use Rattle.laws.specs.Scan.{Marks};

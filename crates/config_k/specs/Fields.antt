@@ -12,7 +12,7 @@ use lib.ListN.{length, getD, take, drop}
 use borrow.Author.Tests.{eqb-true}
 use Rattle.laws.specs.Scan.{every, every-at}
 use Rattle.tables.specs.Rows.{rows, blank, room, sizeOf}
-use Rattle.image.specs.Layout.{imageOf, countOf}
+use Rattle.layout.specs.Layout.{imageOf, countOf}
 use Rattle.image.specs.Images.{layout-entry, layout-count}
 use Rattle.image.specs.Fields.{number, bits, fieldOf, sharindx, smax, rate, maxlen, partition, vmembPort, vlanBc, tagPort, vlanid, bcDomain, reachPort, flDomain, vlanPmap, vlanprio, portVlanid, drpuntag, egress, ingress, partSpc}
 use Rattle.config_k.specs.Tables.{others, kTables}

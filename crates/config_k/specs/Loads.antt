@@ -9,10 +9,10 @@ use lib.Dec.{eqb, lit<}
 use borrow.Author.Tests.{lt-ltb}
 use Rattle.laws.specs.Scan.{some-below, first, total, twice}
 use Rattle.crc.specs.Crc.{bit, bitsOut, byteIn, bytesIn, bytesOf, wordIn, wordsIn, finished, checksum}
-use Rattle.image.specs.Layout.{imageOf}
+use Rattle.layout.specs.Layout.{imageOf}
 use Rattle.tables.specs.Tables.{kindOf}
 use Rattle.image.specs.Fields.{vlanid, index}
-use Rattle.image.specs.Loaded.{incomplete}
+use Rattle.layout.specs.Loaded.{incomplete}
 use Rattle.broken.specs.Broken.{vlanTwice, vlanMissing, sharindxBeyond, spaceOver, indexTwice}
 use Rattle.rules.specs.Rules.{ruled}
 use Rattle.stream.specs.Paper.{Outcome, passed, blocks, framed, refusedWith, outcomeOf, loaded}

@@ -9,7 +9,7 @@ use lib.ListN.{length}
 use borrow.Author.Tests.{eqb-false}
 use Rattle.laws.specs.Chain.{at-zero, not-zero}
 use Rattle.laws.specs.Scan.{first-within}
-use Rattle.image.specs.Layout.{countOf}
+use Rattle.layout.specs.Layout.{countOf}
 use Rattle.image.specs.Fields.{vlanid}
 use Rattle.lookup.specs.Vlan.{vlanAt}
 use Rattle.frame.specs.declared.Intake.{Intake}

@@ -3,7 +3,7 @@ use mathlib.Core.Bool.{Bool, false, cond, not}
 use mathlib.Core.List.{List}
 use Prim.Native.Nat.{ℕ}
 use lib.Dec.{eqb}
-use Rattle.image.specs.Layout.{countOf}
+use Rattle.layout.specs.Layout.{countOf}
 use Rattle.image.specs.Fields.{vmembPort}
 use Rattle.lookup.specs.Vlan.{vlanAt}
 use Rattle.lookup.specs.Address.{holds, barred}

@@ -3,7 +3,7 @@ use frame::Intake;
 ghost use mathlib.Core.Path.{_≡_};
 ghost use Prim.Native.Nat.{_<_, _≤_};
 ghost use lib.ListN.{length};
-ghost use Rattle.image.specs.Layout.{imageIn, countOf};
+ghost use Rattle.layout.specs.Layout.{imageIn, countOf};
 ghost use Rattle.image.specs.Fields.{vmembPort};
 ghost use Rattle.image.specs.Sound.{Sound};
 ghost use Rattle.lookup.specs.Address.{holds};
@@ -34,7 +34,7 @@ pub fn place(image: &[u32], vlan: u64) -> Placed
     ensures { λ r. ⌜ r ≡ placedOf (imageIn (now (image .entry))) vlan ⌝ }
 {
     let place = lookup::vlan::find(image, vlan);
-    if place == image::counts::count(image, 2) {
+    if place == layout::count(image, 2) {
         return Placed::Absent;
     }
     Placed::At(place)

@@ -11,8 +11,8 @@ use borrow.Author.Tests.{ltb-false, lt-ltb, eqb-true, not-false}
 use Rattle.laws.specs.Chain.{hit, pass}
 use Rattle.crc.specs.Crc.{wordsIn}
 use Rattle.crc.specs.declared.Both.{Both}
-use Rattle.image.specs.Layout.{imageWords}
-use Rattle.image.specs.Loaded.{tooShort}
+use Rattle.layout.specs.Layout.{imageWords}
+use Rattle.layout.specs.Loaded.{tooShort}
 use Rattle.tables.specs.Tables.{indexOf}
 use Rattle.tables.specs.declared.Table.{Table}
 use Rattle.stream.specs.Machine.{filling, Written, wrote}

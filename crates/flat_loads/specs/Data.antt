@@ -7,8 +7,8 @@ use lib.Dec.{ltb, eqb}
 use lib.ListN.{length, getD}
 use lib.Seq.{sets}
 use Rattle.crc.specs.Crc.{wordsIn}
-use Rattle.image.specs.Layout.{imageWords}
-use Rattle.image.specs.Loaded.{tooShort}
+use Rattle.layout.specs.Layout.{imageWords}
+use Rattle.layout.specs.Loaded.{tooShort}
 use Rattle.tables.specs.Tables.{indexOf}
 use Rattle.one_block.specs.Data.{dataPlace}
 use Rattle.flat_numbers.specs.Flat.{low, joined, tableOf, loadIn, moved}

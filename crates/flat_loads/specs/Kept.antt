@@ -10,8 +10,8 @@ use lib.ListN.{length, getD}
 use lib.Seq.{length-sets}
 use Rattle.crc.specs.Crc.{wordIn, start}
 use Rattle.crc.specs.Laws.{wordIn-lt}
-use Rattle.image.specs.Layout.{imageIn}
-use Rattle.image.specs.Loaded.{tooShort}
+use Rattle.layout.specs.Layout.{imageIn}
+use Rattle.layout.specs.Loaded.{tooShort}
 use Rattle.tables.specs.declared.Table.{Table}
 use Rattle.stream.specs.Machine.{Machine, at, told, stepIn, step, run, damaged, outside, untouched, written, opened, wrote}
 use Rattle.stream.specs.declared.Phase.{Phase}

@@ -18,15 +18,15 @@ ghost use Rattle.flat_loads.specs.Data.{flatPlace, Fits, Takes};
 fn place_of(image: &[u32], numbers: &[u64; 6], n: usize) -> usize
     ensures { λ r. ⌜ r ≡ flatPlace (now (numbers .entry)) (now (image .entry)) n ⌝ }
 {
-    if image::counts::too_short(image) {
-        return image::counts::IMAGE_WORDS;
+    if layout::too_short(image) {
+        return layout::IMAGE_WORDS;
     }
     if numbers[0] % HALF != 4 {
-        return image::counts::IMAGE_WORDS;
+        return layout::IMAGE_WORDS;
     }
     let table = numbers[1] % HALF;
     if 8 < table {
-        return image::counts::IMAGE_WORDS;
+        return layout::IMAGE_WORDS;
     }
     one_block::data_place(
         image,
@@ -63,7 +63,7 @@ fn take_words(image: &mut [u32], numbers: &mut [u64; 6], place: usize, words: &[
 fn write_any(image: &mut [u32], numbers: &mut [u64; 6], words: &[u32]) -> u32
     ensures { λ r. ⌜ WritesFlat (now (numbers .entry)) (now (image .entry)) (now (words .entry)) r (now (numbers .exit)) (now (image .exit)) ⌝ }
 {
-    if image::counts::too_short(image) {
+    if layout::too_short(image) {
         return 31;
     }
     if !is_load(numbers) {
@@ -82,7 +82,7 @@ pub fn write(image: &mut [u32], load: &mut [u64; 6], words: &[u32]) -> u32
     ensures { λ r. ⌜ WritesFlat (now (load .entry)) (now (image .entry)) (now (words .entry)) r (now (load .exit)) (now (image .exit)) ⌝ }
 {
     let place = place_of(image, load, words.len());
-    if place < image::counts::IMAGE_WORDS {
+    if place < layout::IMAGE_WORDS {
         if words.len() == 1 {
             return take_word(image, load, place, words[0]);
         }

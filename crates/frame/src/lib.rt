@@ -2,7 +2,7 @@
 ghost use mathlib.Core.Path.{_≡_};
 ghost use Prim.Native.Nat.{_+_, _*_, _<_, _≤_};
 ghost use lib.ListN.{length, getD};
-ghost use Rattle.image.specs.Layout.{imageIn};
+ghost use Rattle.layout.specs.Layout.{imageIn};
 ghost use Rattle.image.specs.Sound.{Sound};
 ghost use Rattle.frame.specs.Bytes.{macAt, pairAt, tagOf};
 ghost use Rattle.frame.specs.Intake.{vlanOr, untaggedOf, byTag, intakeOf};

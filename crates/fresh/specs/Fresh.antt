@@ -11,7 +11,7 @@ use lib.Dec.{ltb, eqb, lit≤}
 use lib.ListN.{length, getD, set, replicate, length-append, length-set, List·getD-append}
 use lib.Seq.{set-at, append-snoc, getD-append-add}
 use Rattle.laws.specs.Chain.{hit-lt, pass-lt, at-zero, not-zero}
-use Rattle.image.specs.Layout.{imageIn, countOf}
+use Rattle.layout.specs.Layout.{imageIn, countOf}
 use Rattle.image.specs.Fields.{partSpc}
 use Rattle.ledger.specs.declared.Answer.{Answer}
 use Rattle.ledger.specs.declared.Answer.the-variants.{Refused, Done}

@@ -10,7 +10,7 @@ use ledger::range::full;
 use ledger::range::unloaded;
 ghost use mathlib.Core.Path.{_≡_};
 ghost use Prim.Native.Nat.{_<_};
-ghost use Rattle.image.specs.Layout.{imageIn};
+ghost use Rattle.layout.specs.Layout.{imageIn};
 ghost use Rattle.image.specs.Sound.{Sound};
 ghost use Rattle.fresh.specs.Fresh.{freshOf, noLedger, Freshened};
 
@@ -25,7 +25,7 @@ fn fresh_row(image: &[u32]) -> [u64; CELLS]
         row[UNITS + j] = image::parameters::part_spc(image, j);
         j += 1;
     }
-    let n = image::counts::count(image, 1);
+    let n = layout::count(image, 1);
     let mut k: usize = 0;
     while k < n {
         row[CREDIT + k] = full(image, k);

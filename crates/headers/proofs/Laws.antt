@@ -10,7 +10,7 @@ use lib.Seq.{drop-set-lt}
 use borrow.Author.Tests.{eq-eqb, ne-eqb}
 use Rattle.laws.specs.Chain.{hit, pass, hit-eq, pass-eq, hit-ne, pass-ne}
 use Rattle.crc.specs.Crc.{wordIn, wordsIn, start, finished, checksum}
-use Rattle.image.specs.Layout.{imageWords, imageIn, markAt}
+use Rattle.layout.specs.Layout.{imageWords, imageIn, markAt}
 use Rattle.image.specs.Sound.{Within, Bounded, bounded}
 use Rattle.tables.specs.Tables.{kindOf, tables}
 use Rattle.tables.specs.declared.Table.{Table}

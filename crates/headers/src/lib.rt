@@ -7,7 +7,7 @@ ghost use mathlib.Core.List.{[], _∷_};
 ghost use Prim.Native.Nat.{_<_, _≤_};
 ghost use lib.ListN.{length};
 ghost use Rattle.crc.specs.Crc.{checksum};
-ghost use Rattle.image.specs.Layout.{imageWords, imageIn};
+ghost use Rattle.layout.specs.Layout.{imageWords, imageIn};
 ghost use Rattle.image.specs.Sound.{Within};
 ghost use Rattle.tables.specs.Tables.{kindOf, indexOf};
 ghost use Rattle.stream.specs.Header.{idOf};
@@ -42,7 +42,7 @@ fn fits(image: &[u32], table: Table, n: usize) -> Header
         return Header::Wrong(5);
     }
     let most = tables::most_of(table);
-    let had = image::counts::count(image, tables::index_of(table));
+    let had = layout::count(image, tables::index_of(table));
     if most < had + n / size {
         return Header::Wrong(6);
     }

@@ -3,7 +3,7 @@ use mathlib.Core.Bool.{cond}
 use mathlib.Core.List.{List, [], _∷_}
 use Prim.Native.Nat.{ℕ, zero, suc, _+_, _-_, _*_, _/_, _%_, _^_}
 use lib.Dec.{eqb}
-use Rattle.image.specs.Layout.{entryOf, countOf}
+use Rattle.layout.specs.Layout.{entryOf, countOf}
 
 -- "an entry's low word comes first"
 unfoldable pub number : List ℕ → ℕ

@@ -7,7 +7,7 @@ use native.Mathlib.Omega.{arith}
 use lib.ListN.{length, getD, take, drop, replicate, length-append, length-take, length-replicate}
 use lib.Seq.{take-append-le, drop-append-le, take-append-add, drop-append-add, drop-drop, take-take, getD-append-add, drop-at, length-take-le}
 use Rattle.tables.specs.Rows.{Row, rows, blank, room, before, sizeOf, mostOf, baseOf}
-use Rattle.image.specs.Layout.{padded, entriesFrom, countsFrom, layout, imageOf, countOf, markOf, entryOf, entryWords, imageWords, countAt}
+use Rattle.layout.specs.Layout.{padded, entriesFrom, countsFrom, layout, imageOf, countOf, markOf, entryOf, entryWords, imageWords, countAt}
 
 pub length-padded : (n : ℕ) (l : List ℕ) → length (padded n l) ≡ n
 length-padded n l =

@@ -8,7 +8,7 @@ use native.Mathlib.Omega.{arith}
 use lib.Pow.{pow-add, pow-pos, shl-exact}
 use lib.ListN.{length, getD, take, drop}
 use lib.Seq.{getD-drop, getD-take, take-take}
-use Rattle.image.specs.Layout.{imageWords, imageIn}
+use Rattle.layout.specs.Layout.{imageWords, imageIn}
 use Rattle.image.specs.Fields.{number, bits}
 
 -- each element of a list of words fits 32 bits, as does the 0 past its end
@@ -112,10 +112,6 @@ pub one-shifted : (w : ℕ) → w < 64 → 1 * 2 ^ w % 2 ^ 64 ≡ 2 ^ w
 one-shifted w h = shl-exact 1 w 64 (omega arith) (omega arith) ∙ one-mul (2 ^ w)
 
 -- ---- the image in a buffer
-pub getD-in : (buffer : List ℕ) (j : ℕ) → j < imageWords → getD (imageIn buffer) j 0 ≡ getD buffer j 0
-unfolding imageIn
-getD-in buffer j h = getD-take imageWords buffer j 0 h
-
 -- a part that ends inside the first n elements
 part-in : (n at s : ℕ) (l : List ℕ) → at + s ≤ n → take s (drop at (take n l)) ≡ take s (drop at l)
 part-in n zero s l h = take-take s n l (subst (λ (m : ℕ). m ≤ n) (zero-add s) h)

@@ -1,7 +1,5 @@
--- Where each table stands in the image, what their fields are, and when an image is not to be judged.
-pub mod Layout
+-- What the fields of the image's tables are, what an image gives back, and what a sound one has.
 pub mod Fields
-pub mod Loaded
 pub mod Laws
 pub mod Images
 pub mod Proved

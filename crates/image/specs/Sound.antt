@@ -9,8 +9,8 @@ use lib.ListN.{length, getD}
 use borrow.Author.Tests.{ltb-false, eqb-true, eqb-false, not-false}
 use Rattle.laws.specs.Chain.{none-first, none-rest}
 use Rattle.tables.specs.Rows.{Row, rows, blank, mostOf}
-use Rattle.image.specs.Layout.{imageWords, imageIn, countOf, markOf, Held}
-use Rattle.image.specs.Loaded.{aboveFrom, overLimit, notSingle, incomplete, notLoaded}
+use Rattle.layout.specs.Layout.{imageWords, imageIn, countOf, markOf, Held}
+use Rattle.layout.specs.Loaded.{aboveFrom, overLimit, notSingle, incomplete, notLoaded}
 
 -- every table's count is within its limit
 abbrev pub Within : List ℕ → Type 0

@@ -2,7 +2,7 @@
 ghost use mathlib.Core.Path.{_≡_};
 ghost use Prim.Native.Nat.{_+_, _-_, _*_, _/_, _%_, _^_, _<_, _≤_};
 ghost use lib.ListN.{length, take, drop};
-ghost use Rattle.image.specs.Layout.{imageWords, imageIn};
+ghost use Rattle.layout.specs.Layout.{imageWords, imageIn};
 ghost use Rattle.image.specs.Fields.{number, bits};
 
 fn wide(x: u32) -> u64

@@ -2,7 +2,7 @@
 use crate::bits::field;
 ghost use mathlib.Core.Path.{_≡_};
 ghost use Prim.Native.Nat.{_<_};
-ghost use Rattle.image.specs.Layout.{Held, imageIn};
+ghost use Rattle.layout.specs.Layout.{Held, imageIn};
 ghost use Rattle.image.specs.Fields.{bcDomain, reachPort, flDomain, vlanPmap};
 
 const START: usize = 11354;

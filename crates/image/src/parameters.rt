@@ -1,10 +1,10 @@
 // L2 Lookup Parameters, block 0D, and L2 Forwarding Parameters, block 0E (the manual's tables 18 and 19): one entry each.
 use crate::bits::field;
-use crate::counts::count;
+use layout::count;
 ghost use mathlib.Core.Path.{_≡_};
 ghost use Prim.Native.Nat.{_<_, _≤_};
 ghost use lib.ListN.{length};
-ghost use Rattle.image.specs.Layout.{Held, imageWords, imageIn, countOf};
+ghost use Rattle.layout.specs.Layout.{Held, imageWords, imageIn, countOf};
 ghost use Rattle.image.specs.Fields.{sharedLearn, partSpc};
 
 const LOOKUP_START: usize = 11415;

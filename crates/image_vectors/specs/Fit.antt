@@ -6,8 +6,8 @@ use Prim.Native.Nat.{ℕ, _<_, _≤_}
 use native.Mathlib.Omega.{arith}
 use lib.Dec.{lit<}
 use lib.ListN.{length}
-use Rattle.image.specs.Layout.{imageWords, imageIn, countOf, Held}
-use Rattle.image.specs.Loaded.{overLimit}
+use Rattle.layout.specs.Layout.{imageWords, imageIn, countOf, Held}
+use Rattle.layout.specs.Loaded.{overLimit}
 use Rattle.image.specs.Sound.{Within, within-limits}
 
 pub record Fit (buffer : List ℕ) : Type 0 where

@@ -13,7 +13,7 @@ use settle::carry_out;
 ghost use mathlib.Core.Path.{_≡_};
 ghost use Prim.Native.Nat.{_<_, _≤_};
 ghost use lib.ListN.{length};
-ghost use Rattle.image.specs.Layout.{imageIn};
+ghost use Rattle.layout.specs.Layout.{imageIn};
 ghost use Rattle.image.specs.Sound.{Sound};
 ghost use Rattle.enter.specs.Laws.{Through};
 ghost use Rattle.judge.specs.Refusal.{mistimed, unjudged, refusalOf};

@@ -10,7 +10,7 @@ use lib.Dec.{ltb, eqb, lit≤, lit<}
 use lib.ListN.{length, getD, set, length-set}
 use borrow.Author.Tests.{le-ltb, lt-ltb, eqb-true}
 use Rattle.laws.specs.Scan.{none-all}
-use Rattle.image.specs.Layout.{imageIn, countOf}
+use Rattle.layout.specs.Layout.{imageIn, countOf}
 use Rattle.image.specs.Fields.{partSpc, smax}
 use Rattle.ledger.specs.Row.{units, credit, since, frames, drops, octets, dropped, last, start, many, cellCount, cell, put}
 use Rattle.ledger.specs.Range.{latest, unitsOver, fullOf, creditOver, octetsOff, countsOff, tilesOff, timesOver, outOfRange}

@@ -10,7 +10,7 @@ use lib.Dec.{ltb, eqb}
 use borrow.Author.Tests.{lt-ltb, le-ltb}
 use Rattle.laws.specs.Chain.{pass-lt, of-le}
 use Rattle.laws.specs.Scan.{some-below, some-more, flag}
-use Rattle.image.specs.Layout.{countOf}
+use Rattle.layout.specs.Layout.{countOf}
 use Rattle.ledger.specs.Row.{credit, since, last, many, cell}
 use Rattle.ledger.specs.Range.{latest, unitsOver, fullOf, creditOver, tilesOff, timesOver, outOfRange}
 

@@ -12,9 +12,9 @@ use lib.Seq.{getD-set-same, getD-set-other}
 use borrow.Author.Tests.{ltb-false, leb-true, eqb-true, eqb-false}
 use Rattle.laws.specs.Chain.{none-first, none-rest, zero-first, zero-rest}
 use Rattle.laws.specs.Scan.{none-at}
-use Rattle.image.specs.Layout.{imageWords, imageIn}
+use Rattle.layout.specs.Layout.{imageWords, imageIn}
 use Rattle.image.specs.Fields.{partSpc}
-use Rattle.image.specs.Loaded.{tooShort, notLoaded}
+use Rattle.layout.specs.Loaded.{tooShort, notLoaded}
 use Rattle.image.specs.Sound.{Sound, sound}
 use Rattle.ledger.specs.Row.{parts, units, credit, since, frames, drops, octets, dropped, last, many, cellCount, cell}
 use Rattle.ledger.specs.Range.{latest, unitsOver, fullOf, creditOver, octetsOff, countsOff, tilesOff, timesOver, outOfRange, unloaded, standing}

@@ -2,8 +2,8 @@
 use mathlib.Core.Path.{_≡_, refl, _∙_, ap}
 use mathlib.Core.Bool.{Bool, true, false, cond}
 use lib.Dec.{eqb}
-use Rattle.image.specs.Layout.{imageIn}
-use Rattle.image.specs.Loaded.{tooShort, notLoaded}
+use Rattle.layout.specs.Layout.{imageIn}
+use Rattle.layout.specs.Loaded.{tooShort, notLoaded}
 use mathlib.Core.List.{List}
 use Prim.Native.Nat.{ℕ}
 use Rattle.ledger.specs.Range.{octetsOff, countsOff, outOfRange, unloaded, standing}

@@ -5,9 +5,9 @@ use mathlib.Core.List.{List}
 use Prim.Native.Nat.{ℕ, _*_}
 use lib.Dec.{ltb, eqb}
 use Rattle.laws.specs.Scan.{some-below}
-use Rattle.image.specs.Layout.{imageIn, countOf}
+use Rattle.layout.specs.Layout.{imageIn, countOf}
 use Rattle.image.specs.Fields.{partSpc, smax}
-use Rattle.image.specs.Loaded.{tooShort, notLoaded}
+use Rattle.layout.specs.Loaded.{tooShort, notLoaded}
 use Rattle.ledger.specs.Row.{units, credit, since, frames, drops, octets, dropped, last, many, cell}
 
 -- the latest time, 2^48 - 1 µs

@@ -15,7 +15,7 @@ ghost use mathlib.Core.Path.{_≡_};
 ghost use mathlib.Core.Bool.{_||_};
 ghost use Prim.Native.Nat.{_<_, _≤_, _^_};
 ghost use lib.Dec.{ltb};
-ghost use Rattle.image.specs.Layout.{imageIn};
+ghost use Rattle.layout.specs.Layout.{imageIn};
 ghost use Rattle.image.specs.Sound.{Sound};
 ghost use Rattle.ledger.specs.Row.{credit, last, many, cell};
 ghost use Rattle.ledger.specs.Above.{Tells, meterOver};
@@ -54,7 +54,7 @@ pub fn full(image: &[u32], k: usize) -> u64
     requires { ⌜ Sound (now image) ⌝ }
     ensures { λ r. ⌜ (r ≡ fullOf (imageIn (now (image .entry))) k) × (r < 524288000001) ⌝ }
 {
-    if k < image::counts::count(image, 1) {
+    if k < layout::count(image, 1) {
         return image::policing::smax(image, k) * 8000000;
     }
     0
@@ -73,7 +73,7 @@ fn meters_over(image: &[u32], row: &[u64; CELLS]) -> bool
     requires { ⌜ Sound (now image) × (cell (now row) last 0 ≤ latest) ⌝ }
     ensures { λ r. ⌜ r ≡ (creditOver (imageIn (now (image .entry))) (now (row .entry)) || timesOver (now (row .entry))) ⌝ }
 {
-    let entries = image::counts::count(image, 1);
+    let entries = layout::count(image, 1);
     let mut all: u64 = 0;
     let mut k: usize = 0;
     while k < entries {
@@ -153,10 +153,10 @@ pub fn out_of_range(image: &[u32], row: &[u64; CELLS]) -> bool
 pub fn unloaded(image: &[u32]) -> u32
     ensures { λ r. ⌜ r ≡ unloaded (now (image .entry)) ⌝ }
 {
-    if image::counts::too_short(image) {
+    if layout::too_short(image) {
         return 31;
     }
-    if image::counts::not_loaded(image) {
+    if layout::not_loaded(image) {
         return 30;
     }
     0

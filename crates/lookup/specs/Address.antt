@@ -4,7 +4,7 @@ use mathlib.Core.List.{List}
 use Prim.Native.Nat.{ℕ, _/_, _%_, _^_}
 use lib.Dec.{eqb}
 use Rattle.laws.specs.Scan.{some-below, least}
-use Rattle.image.specs.Layout.{countOf}
+use Rattle.layout.specs.Layout.{countOf}
 use Rattle.image.specs.Fields.{addressVlanid, macaddr, destports, enfport, index, sharedLearn}
 
 -- a port is in a mask: "port 0 the lowest bit"

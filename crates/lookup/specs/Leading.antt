@@ -6,7 +6,7 @@ use Prim.Native.Nat.{ℕ, _+_, _%_}
 use lib.Dec.{eqb}
 use borrow.Author.Tests.{eq-eqb, ne-eqb}
 use Rattle.laws.specs.Scan.{some-below}
-use Rattle.image.specs.Layout.{countOf}
+use Rattle.layout.specs.Layout.{countOf}
 use Rattle.image.specs.Fields.{macaddr, enfport, destports, sharedLearn, addressVlanid, index}
 use Rattle.lookup.specs.Address.{holds, likeAddress, hasAddress, matches, bars}
 use Rattle.lookup.specs.Groups.{from, none-more}

@@ -8,7 +8,7 @@ use native.Mathlib.Numerals.{add-one}
 use lib.Dec.{eqb}
 use borrow.Author.Tests.{eq-eqb, ne-eqb}
 use Rattle.laws.specs.Scan.{first, least, first-none, first-more, first-found}
-use Rattle.image.specs.Layout.{countOf}
+use Rattle.layout.specs.Layout.{countOf}
 use Rattle.image.specs.Fields.{vlanid, index}
 use Rattle.lookup.specs.Vlan.{vlanAt}
 use Rattle.lookup.specs.Address.{matches}

@@ -4,7 +4,7 @@ use mathlib.Core.List.{List}
 use Prim.Native.Nat.{ℕ}
 use lib.Dec.{eqb}
 use Rattle.laws.specs.Scan.{first}
-use Rattle.image.specs.Layout.{countOf}
+use Rattle.layout.specs.Layout.{countOf}
 use Rattle.image.specs.Fields.{vlanid}
 
 -- entry i is for the VLAN v

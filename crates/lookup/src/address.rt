@@ -4,7 +4,7 @@ ghost use mathlib.Core.Bool.{cond, not, false};
 ghost use Prim.Native.Nat.{_+_, _-_, _%_, _≤_, _<_};
 ghost use lib.Dec.{ltb, eqb};
 ghost use lib.ListN.{length};
-ghost use Rattle.image.specs.Layout.{Held, imageWords, imageIn, countOf};
+ghost use Rattle.layout.specs.Layout.{Held, imageWords, imageIn, countOf};
 ghost use Rattle.image.specs.Fields.{sharedLearn, macaddr, destports, index};
 ghost use Rattle.laws.specs.Scan.{some-below};
 ghost use Rattle.lookup.specs.Groups.{from};
@@ -133,7 +133,7 @@ pub fn barred(image: &[u32], port: usize, vlan: u64, mac: u64) -> bool
     requires { ⌜ port < 64 ⌝ }
     ensures { λ r. ⌜ r ≡ barred (imageIn (now (image .entry))) port vlan mac ⌝ }
 {
-    let n = image::counts::count(image, 0);
+    let n = layout::count(image, 0);
     let shared = image::parameters::shared_learn(image);
     let key = key_of(mac);
     let mut i = next_like(image, key, 0, n);
@@ -197,7 +197,7 @@ pub fn destination(image: &[u32], vlan: u64, mac: u64) -> usize
     requires { ⌜ (imageWords ≤ length (now image)) × (countOf (imageIn (now image)) 0 ≤ 1024) × (countOf (imageIn (now image)) 5 ≤ 1) ⌝ }
     ensures { λ r. ⌜ (r ≡ destinationAt (imageIn (now (image .entry))) vlan mac) × (r ≤ countOf (imageIn (now (image .entry))) 0) ⌝ }
 {
-    let n = image::counts::count(image, 0);
+    let n = layout::count(image, 0);
     let shared = image::parameters::shared_learn(image);
     let mut best = Best {
         entry: n,

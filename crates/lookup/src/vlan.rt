@@ -4,7 +4,7 @@ ghost use mathlib.Core.Bool.{not};
 ghost use Prim.Native.Nat.{_+_, _%_, _<_, _≤_};
 ghost use lib.ListN.{length};
 ghost use Rattle.laws.specs.Scan.{some-below, first};
-ghost use Rattle.image.specs.Layout.{Held, imageWords, imageIn, countOf};
+ghost use Rattle.layout.specs.Layout.{Held, imageWords, imageIn, countOf};
 ghost use Rattle.image.specs.Fields.{vlanid};
 ghost use Rattle.lookup.specs.Groups.{from};
 ghost use Rattle.lookup.specs.Vlan.{hasVlan, vlanAt};
@@ -43,7 +43,7 @@ fn find_from(image: &[u32], vlanid: u64, start: usize) -> usize
     requires { ⌜ (start ≤ countOf (imageIn (now image)) 2) × (first start (hasVlan (imageIn (now image)) vlanid) ≡ start) ⌝ }
     ensures { λ r. ⌜ (r ≡ vlanAt (imageIn (now (image .entry))) vlanid) × (r ≤ countOf (imageIn (now (image .entry))) 2) ⌝ }
 {
-    let n = image::counts::count(image, 2);
+    let n = layout::count(image, 2);
     let mut i = start;
     while i < n {
         if image::vlan::vlanid(image, i) == vlanid {
@@ -59,7 +59,7 @@ pub fn find(image: &[u32], vlanid: u64) -> usize
     requires { ⌜ (imageWords ≤ length (now image)) × (countOf (imageIn (now image)) 2 ≤ 4096) ⌝ }
     ensures { λ r. ⌜ (r ≡ vlanAt (imageIn (now (image .entry))) vlanid) × (r ≤ countOf (imageIn (now (image .entry))) 2) ⌝ }
 {
-    let n = image::counts::count(image, 2);
+    let n = layout::count(image, 2);
     let key = key_of(vlanid);
     let mut i: usize = 0;
     while 16 <= n - i {

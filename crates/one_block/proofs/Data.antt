@@ -10,8 +10,8 @@ use lib.ListN.{length}
 use lib.Seq.{sets}
 use borrow.Author.Tests.{ltb-false}
 use Rattle.crc.specs.Crc.{wordsIn}
-use Rattle.image.specs.Layout.{imageWords, entryWords, imageIn}
-use Rattle.image.specs.Loaded.{overLimit}
+use Rattle.layout.specs.Layout.{imageWords, entryWords, imageIn}
+use Rattle.layout.specs.Loaded.{overLimit}
 use Rattle.tables.specs.Rows.{sizeOf, mostOf}
 use Rattle.tables.specs.Tables.{indexOf}
 use Rattle.stream.specs.Bridge.{room-inside}

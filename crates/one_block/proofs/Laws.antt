@@ -6,7 +6,7 @@ use native.Mathlib.Nat.{not-suc-le-zero}
 use lib.ListN.{length}
 use lib.Seq.{sets}
 use Rattle.crc.specs.Crc.{wordsIn}
-use Rattle.image.specs.Layout.{entryWords}
+use Rattle.layout.specs.Layout.{entryWords}
 use Rattle.tables.specs.Tables.{indexOf}
 use Rattle.stream.specs.Machine.{at, filling, placeIn, stepIn, step, run}
 use Rattle.stream.specs.Runs.{run-data}

@@ -3,8 +3,8 @@ use mathlib.Core.Bool.{cond}
 use mathlib.Core.List.{List}
 use Prim.Native.Nat.{ℕ}
 use lib.Dec.{ltb}
-use Rattle.image.specs.Layout.{imageWords, imageIn}
-use Rattle.image.specs.Loaded.{overLimit}
+use Rattle.layout.specs.Layout.{imageWords, imageIn}
+use Rattle.layout.specs.Loaded.{overLimit}
 use Rattle.stream.specs.Machine.{placeIn, beyond, outside}
 
 -- where its n words go; behind the image where a test refuses the write, or where it has more words than are due

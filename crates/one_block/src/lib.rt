@@ -4,7 +4,7 @@ ghost use mathlib.Core.Path.{_≡_};
 ghost use Prim.Native.Nat.{_+_, _≤_};
 ghost use lib.ListN.{length};
 ghost use lib.Seq.{sets};
-ghost use Rattle.image.specs.Layout.{imageWords};
+ghost use Rattle.layout.specs.Layout.{imageWords};
 ghost use Rattle.tables.specs.Tables.{indexOf};
 ghost use Rattle.one_block.specs.Data.{dataPlace};
 
@@ -14,17 +14,17 @@ pub fn data_place(image: &[u32], table: Table, placed: usize, due: usize, n: usi
     ensures { λ r. ⌜ r ≡ dataPlace (now (image .entry)) (indexOf table) placed due n ⌝ }
 {
     if refusal::outside(n) {
-        return image::counts::IMAGE_WORDS;
+        return layout::IMAGE_WORDS;
     }
     if due < n {
-        return image::counts::IMAGE_WORDS;
+        return layout::IMAGE_WORDS;
     }
-    if image::counts::over_limit(image) {
-        return image::counts::IMAGE_WORDS;
+    if layout::over_limit(image) {
+        return layout::IMAGE_WORDS;
     }
     let room = placing::room_of(image, table);
     if refusal::passes(room.left, placed, due) {
-        return image::counts::IMAGE_WORDS;
+        return layout::IMAGE_WORDS;
     }
     room.place + placed
 }

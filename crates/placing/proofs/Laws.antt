@@ -12,7 +12,7 @@ use Rattle.laws.specs.Scan.{every, every-at}
 use Rattle.laws.specs.Chain.{hit-eq, pass-eq, hit-ne, pass-ne}
 use Rattle.crc.specs.Crc.{wordIn, finished}
 use Rattle.tables.specs.Rows.{sizeOf, mostOf, baseOf}
-use Rattle.image.specs.Layout.{entryWords}
+use Rattle.layout.specs.Layout.{entryWords}
 use Rattle.tables.specs.Tables.{indexOf}
 use Rattle.tables.specs.declared.Table.{Table}
 use Rattle.stream.specs.Machine.{Machine, at, idle, filling, refuse, hadIn, placeIn, filled}

@@ -2,7 +2,7 @@
 use mathlib.Core.Path.{_≡_}
 use mathlib.Core.List.{List}
 use Prim.Native.Nat.{ℕ, _+_, _*_, _≤_}
-use Rattle.image.specs.Layout.{entryWords}
+use Rattle.layout.specs.Layout.{entryWords}
 use Rattle.tables.specs.Rows.{baseOf, sizeOf, mostOf}
 use Rattle.stream.specs.Machine.{hadIn}
 use Rattle.placing.specs.declared.Room.{Room}

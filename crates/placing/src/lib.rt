@@ -4,7 +4,7 @@ use tables::Table;
 ghost use mathlib.Core.Path.{_≡_};
 ghost use Prim.Native.Nat.{_+_, _*_, _/_, _≤_};
 ghost use lib.ListN.{length};
-ghost use Rattle.image.specs.Layout.{imageWords, entryWords, imageIn};
+ghost use Rattle.layout.specs.Layout.{imageWords, entryWords, imageIn};
 ghost use Rattle.tables.specs.Rows.{sizeOf, mostOf};
 ghost use Rattle.image.specs.Sound.{Within};
 ghost use Rattle.tables.specs.Tables.{indexOf};
@@ -26,7 +26,7 @@ pub fn room_of(image: &[u32], table: Table) -> Room
     ensures { λ r. ⌜ RoomOf (now (image .entry)) (indexOf table) r ⌝ }
 {
     let shape = tables::shape_of(table);
-    let had = image::counts::count(image, tables::index_of(table));
+    let had = layout::count(image, tables::index_of(table));
     Room {
         place: shape.base + had * shape.size,
         left: shape.most * shape.size - had * shape.size,
@@ -49,7 +49,7 @@ fn raised(image: &[u32], table: Table, placed: usize) -> u32
     ensures { λ r. ⌜ r ≡ hadIn (now (image .entry)) (indexOf table) + placed / sizeOf (indexOf table) ⌝ }
 {
     let size = tables::size_of(table);
-    let had = image::counts::count(image, tables::index_of(table));
+    let had = layout::count(image, tables::index_of(table));
     (had + placed / size) as u32
 }
 

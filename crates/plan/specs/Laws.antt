@@ -7,7 +7,7 @@ use native.Mathlib.Nat.{mod-lt}
 use lib.Pow.{pow-pos}
 use lib.Dec.{ltb, leb}
 use borrow.Author.Tests.{leb-false}
-use Rattle.image.specs.Layout.{imageIn, countOf, Held}
+use Rattle.layout.specs.Layout.{imageIn, countOf, Held}
 use Rattle.image.specs.Sound.{Sound}
 use Rattle.image.specs.Fields.{sharindx, maxlen, smax, rate, partition}
 use Rattle.frame.specs.Bytes.{octetsOf, destinationOf}

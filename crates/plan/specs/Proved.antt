@@ -5,7 +5,7 @@ use mathlib.Core.List.{List}
 use Prim.Native.Nat.{ℕ, _<_, _≤_}
 use lib.Dec.{ltb}
 use borrow.Author.Tests.{lt-ltb, le-leb, lt-leb}
-use Rattle.image.specs.Layout.{countOf}
+use Rattle.layout.specs.Layout.{countOf}
 use Rattle.image.specs.Fields.{maxlen}
 use Rattle.plan.specs.declared.Policed.the-variants.{Unmetered, TooLong, By}
 use Rattle.plan.specs.Police.{policerOf, meteredBy}

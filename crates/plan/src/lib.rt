@@ -5,7 +5,7 @@ ghost use mathlib.Core.Path.{_≡_};
 ghost use Prim.Native.Nat.{_+_, _<_, _≤_};
 ghost use lib.Dec.{leb};
 ghost use lib.ListN.{length};
-ghost use Rattle.image.specs.Layout.{imageIn, countOf};
+ghost use Rattle.layout.specs.Layout.{imageIn, countOf};
 ghost use Rattle.image.specs.Sound.{Sound};
 ghost use Rattle.enter.specs.Laws.{LetIn};
 ghost use Rattle.plan.specs.Police.{policerOf, meteredBy, policedBy, policedOf};
@@ -50,7 +50,7 @@ fn unloaded(image: &[u32], k: usize) -> bool
     requires { ⌜ Sound (now image) ⌝ }
     ensures { λ r. ⌜ r ≡ leb (countOf (imageIn (now (image .entry))) 1) k ⌝ }
 {
-    image::counts::count(image, 1) <= k
+    layout::count(image, 1) <= k
 }
 
 fn metered(image: &[u32], policer: usize, meter: usize, octets: u64) -> Policed

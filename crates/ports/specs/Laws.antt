@@ -7,7 +7,7 @@ use native.Mathlib.Nat.{le-refl, le-of-lt}
 use native.Mathlib.Omega.{arith}
 use lib.Bits.{bitAnd, and-shr, and-mod, and-zero-r}
 use lib.Dec.{eqb}
-use Rattle.image.specs.Layout.{Held}
+use Rattle.layout.specs.Layout.{Held}
 use Rattle.image.specs.Sound.{Sound}
 use Rattle.lookup.specs.Address.{holds}
 use Rattle.ports.specs.declared.Sending.{Sending}

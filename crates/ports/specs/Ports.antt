@@ -4,7 +4,7 @@ use mathlib.Core.List.{List}
 use Prim.Native.Nat.{ℕ, _+_, _-_, _*_, _^_}
 use lib.Bits.{bitAnd}
 use lib.Dec.{eqb}
-use Rattle.image.specs.Layout.{countOf}
+use Rattle.layout.specs.Layout.{countOf}
 use Rattle.image.specs.Fields.{destports, vmembPort, vlanBc, tagPort, bcDomain, reachPort, flDomain, vlanPmap, egress}
 use Rattle.lookup.specs.Address.{holds, destinationAt}
 use Rattle.frame.specs.Bytes.{broadcasts}

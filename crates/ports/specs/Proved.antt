@@ -5,7 +5,7 @@ use mathlib.Core.List.{List}
 use Prim.Native.Nat.{ℕ, _+_, _<_}
 use lib.Dec.{eqb}
 use borrow.Author.Tests.{eq-eqb, ne-eqb}
-use Rattle.image.specs.Layout.{countOf}
+use Rattle.layout.specs.Layout.{countOf}
 use Rattle.image.specs.Fields.{flDomain, destports, vlanPmap, bcDomain, vlanBc, reachPort, vmembPort}
 use lib.Bits.{bitAnd}
 use Rattle.lookup.specs.Address.{holds, destinationAt}

@@ -2,7 +2,7 @@
 ghost use mathlib.Core.Path.{_≡_};
 ghost use Prim.Native.Nat.{_+_, _<_, _≤_};
 ghost use lib.Bits.{bitAnd};
-ghost use Rattle.image.specs.Layout.{imageIn, countOf};
+ghost use Rattle.layout.specs.Layout.{imageIn, countOf};
 ghost use Rattle.image.specs.Sound.{Sound};
 ghost use Rattle.ports.specs.Ports.{towards, wantedOf, maskOf, egressPorts, others, portsOf, queueOf, sendingAt, sendingOf};
 
@@ -25,7 +25,7 @@ fn towards(image: &[u32], port: usize, found: usize) -> u64
     requires { ⌜ (port < 5) × (found ≤ countOf (imageIn (now image)) 0) ⌝ }
     ensures { λ r. ⌜ r ≡ towards (imageIn (now (image .entry))) port found ⌝ }
 {
-    if found == image::counts::count(image, 0) {
+    if found == layout::count(image, 0) {
         return image::forwarding::fl_domain(image, port);
     }
     image::address::destports(image, found)

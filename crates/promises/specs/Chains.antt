@@ -3,7 +3,7 @@ use mathlib.Core.Path.{_≡_, refl, sym, _∙_, ap, subst}
 use mathlib.Core.List.{List, [], _∷_}
 use Prim.Native.Nat.{ℕ, _≤_}
 use lib.ListN.{length}
-use Rattle.image.specs.Layout.{imageWords, imageIn}
+use Rattle.layout.specs.Layout.{imageWords, imageIn}
 use Rattle.stream.specs.declared.Answer.{Answer}
 use Rattle.stream.specs.declared.Load.{Load}
 use Rattle.stream.specs.Paper.{passed, ended, framed, numbered}

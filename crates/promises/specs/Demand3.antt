@@ -9,9 +9,9 @@ use lib.ListN.{length, drop, replicate, length-append, length-replicate}
 use lib.Seq.{take-at}
 use borrow.Author.Tests.{le-ltb}
 use native.Mathlib.Nat.{le-add-right}
-use Rattle.image.specs.Layout.{imageWords, imageIn, imageOf}
+use Rattle.layout.specs.Layout.{imageWords, imageIn, imageOf}
 use Rattle.image.specs.Images.{length-layout}
-use Rattle.image.specs.Loaded.{tooShort}
+use Rattle.layout.specs.Loaded.{tooShort}
 use Rattle.rules.specs.Rules.{ruled}
 use Rattle.stream.specs.Paper.{Framed, passed, ended, framed, numbered, Outcome, refusedWith}
 use Rattle.stream.specs.Machine.{told, Written}

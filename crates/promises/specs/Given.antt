@@ -10,7 +10,7 @@ use lib.ListN.{length, getD, take, drop, length-take, length-drop}
 use borrow.Author.Tests.{eqb-true, not-false}
 use Rattle.crc.specs.Crc.{checksum}
 use Rattle.tables.specs.Rows.{sizeOf}
-use Rattle.image.specs.Layout.{countOf, entryOf, imageOf}
+use Rattle.layout.specs.Layout.{countOf, entryOf, imageOf}
 use Rattle.image.specs.Images.{layout-count, layout-entry}
 use Rattle.tables.specs.Tables.{kindOf}
 use Rattle.rules.specs.Rules.{ruled}

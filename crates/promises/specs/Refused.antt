@@ -11,8 +11,8 @@ use lib.Seq.{take-append-le, take-all}
 use borrow.Author.Tests.{eqb-false}
 use Rattle.laws.specs.Chain.{pass}
 use Rattle.crc.specs.Crc.{checksum, finished}
-use Rattle.image.specs.Layout.{imageWords, imageIn, imageOf, markAt}
-use Rattle.image.specs.Loaded.{tooShort, overLimit}
+use Rattle.layout.specs.Layout.{imageWords, imageIn, imageOf, markAt}
+use Rattle.layout.specs.Loaded.{tooShort, overLimit}
 use Rattle.tables.specs.Tables.{kindOf}
 use Rattle.rules.specs.Rules.{ruled}
 use Rattle.stream.specs.declared.Answer.{Answer}

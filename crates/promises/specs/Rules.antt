@@ -8,7 +8,7 @@ use native.Mathlib.Nat.{le-antisymm, le-step, le-of-suc-le-suc, not-suc-le-zero,
 use lib.Dec.{ltb, eqb}
 use borrow.Author.Tests.{ltb-true, ltb-false, lt-ltb, le-ltb, eqb-true, eq-eqb, ne-eqb, not-true}
 use Rattle.laws.specs.Scan.{some-below, some-found, first, total, twice}
-use Rattle.image.specs.Layout.{countOf}
+use Rattle.layout.specs.Layout.{countOf}
 use Rattle.image.specs.Fields.{vlanid, portVlanid, sharindx, partSpc, index}
 use Rattle.lookup.specs.Vlan.{vlanAt}
 use Rattle.promises.specs.First.{Test, test, First, first-is, only-first}

@@ -8,7 +8,7 @@ ghost use mathlib.Core.Path.{_≡_};
 ghost use Prim.Native.Nat.{_<_, _≤_};
 ghost use lib.ListN.{length};
 ghost use Rattle.crc.specs.Crc.{wordsIn};
-ghost use Rattle.image.specs.Layout.{imageWords};
+ghost use Rattle.layout.specs.Layout.{imageWords};
 ghost use Rattle.stream.specs.Fine.{Roomy, Fine};
 ghost use Rattle.stream.specs.Machine.{at, run};
 ghost use Rattle.stream.specs.declared.Phase.the-variants.{Data};

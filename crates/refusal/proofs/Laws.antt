@@ -9,8 +9,8 @@ use native.Mathlib.Omega.{arith}
 use lib.ListN.{length}
 use borrow.Author.Tests.{ltb-true, ltb-false, lt-ltb, le-ltb}
 use Rattle.tables.specs.Rows.{sizeOf, mostOf}
-use Rattle.image.specs.Layout.{imageWords, imageIn}
-use Rattle.image.specs.Loaded.{tooShort}
+use Rattle.layout.specs.Layout.{imageWords, imageIn}
+use Rattle.layout.specs.Loaded.{tooShort}
 use Rattle.stream.specs.Machine.{hadIn, beyond, outside}
 
 -- ---- 30's sum, tested by a difference

@@ -6,8 +6,8 @@ use Prim.Native.Nat.{ℕ, _≤_}
 use lib.ListN.{length}
 use borrow.Author.Tests.{le-ltb}
 use Rattle.laws.specs.Chain.{hit, pass, zero-first, zero-rest}
-use Rattle.image.specs.Layout.{imageWords, imageIn}
-use Rattle.image.specs.Loaded.{tooShort}
+use Rattle.layout.specs.Layout.{imageWords, imageIn}
+use Rattle.layout.specs.Loaded.{tooShort}
 use Rattle.stream.specs.Machine.{at, cleared, run, begun, damaged, outside, untouched, opened, Written, written, wrote, answerOf}
 use Rattle.stream.specs.declared.Phase.{Phase}
 use Rattle.stream.specs.declared.Phase.the-variants.{Device, Id, Length, Sum, Data, Told}

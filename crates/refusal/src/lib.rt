@@ -7,7 +7,7 @@ ghost use mathlib.Core.Path.{_≡_};
 ghost use Prim.Native.Nat.{_+_, _≤_};
 ghost use lib.Dec.{ltb};
 ghost use lib.ListN.{length};
-ghost use Rattle.image.specs.Layout.{imageWords, imageIn};
+ghost use Rattle.layout.specs.Layout.{imageWords, imageIn};
 ghost use Rattle.image.specs.Sound.{Within};
 ghost use Rattle.tables.specs.Tables.{indexOf};
 ghost use Rattle.stream.specs.Machine.{at, beyond, overdueIn, damaged, outside, opened};
@@ -56,7 +56,7 @@ fn damaged(image: &[u32], load: Load) -> bool
     if !states::is_begun(phase) {
         return false;
     }
-    if image::counts::over_limit(image) {
+    if layout::over_limit(image) {
         return true;
     }
     overdue(image, load)
@@ -76,7 +76,7 @@ pub fn outside(n: usize) -> bool
 pub fn write_refusal(image: &[u32], load: Load, count: usize) -> u32
     ensures { λ r. ⌜ r ≡ writeRefusal load (now (image .entry)) count ⌝ }
 {
-    if image::counts::too_short(image) {
+    if layout::too_short(image) {
         return 31;
     }
     if damaged(image, load) {

@@ -5,7 +5,7 @@ use ledger::UNITS;
 use ledger::range::standing;
 ghost use mathlib.Core.Path.{_≡_};
 ghost use Prim.Native.Nat.{_<_};
-ghost use Rattle.image.specs.Layout.{imageIn};
+ghost use Rattle.layout.specs.Layout.{imageIn};
 ghost use Rattle.image.specs.Sound.{Sound};
 ghost use Rattle.release.specs.Release.{unreleased, releaseRefusal, givenTo, HasRoom, Released};
 

@@ -2,7 +2,7 @@
 use mathlib.Core.Bool.{Bool, cond}
 use mathlib.Core.List.{List, [], _∷_}
 use Prim.Native.Nat.{ℕ}
-use Rattle.image.specs.Loaded.{incomplete}
+use Rattle.layout.specs.Loaded.{incomplete}
 use Rattle.broken.specs.Broken.{vlanTwice, vlanMissing, sharindxBeyond, spaceOver, indexTwice}
 
 -- a rule: its number, and whether an image breaks it

@@ -5,7 +5,7 @@ use broken::space_over;
 use broken::vlans_broken;
 ghost use mathlib.Core.Path.{_≡_};
 ghost use lib.ListN.{drop};
-ghost use Rattle.image.specs.Layout.{imageIn, countOf};
+ghost use Rattle.layout.specs.Layout.{imageIn, countOf};
 ghost use Rattle.image.specs.Sound.{Bounded};
 ghost use Rattle.rules.specs.Rules.{rules, firstOf, ruled};
 
@@ -45,7 +45,7 @@ pub fn first_broken_rule(image: &[u32]) -> u32
     requires { ⌜ Bounded (now image) ⌝ }
     ensures { λ r. ⌜ r ≡ ruled (imageIn (now (image .entry))) ⌝ }
 {
-    if image::counts::incomplete(image) {
+    if layout::incomplete(image) {
         return 20;
     }
     broken_after_20(image)

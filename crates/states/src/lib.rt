@@ -6,7 +6,7 @@ use tables::Table;
 ghost use mathlib.Core.Path.{_≡_};
 ghost use Prim.Native.Nat.{_≤_};
 ghost use lib.ListN.{length};
-ghost use Rattle.image.specs.Layout.{imageWords};
+ghost use Rattle.layout.specs.Layout.{imageWords};
 ghost use Rattle.stream.specs.Machine.{at, fresh, idle, headed, sized, filling, told, cleared, refuse, answerOf, begun};
 ghost use Rattle.stream.specs.Paper.{numbered};
 ghost use Rattle.stream.specs.Ends.{cutShort, settled};

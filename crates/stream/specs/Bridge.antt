@@ -14,7 +14,7 @@ use Rattle.crc.specs.Crc.{wordIn, wordsIn, start, finished, checksum}
 use Rattle.crc.specs.Laws.{wordsIn-append}
 use Rattle.laws.specs.Scan.{every, every-at}
 use Rattle.tables.specs.Rows.{Row, rows, blank, room, before, rowOf, sizeOf, mostOf, baseOf}
-use Rattle.image.specs.Layout.{imageWords, entryWords, imageIn, padded, entriesFrom, countsFrom, layout, countOf, countAt, markAt}
+use Rattle.layout.specs.Layout.{imageWords, entryWords, imageIn, padded, entriesFrom, countsFrom, layout, countOf, countAt, markAt}
 use Rattle.image.specs.Images.{length-layout, layout-count}
 use Rattle.tables.specs.Tables.{indexOf, tables, kindOf}
 use Rattle.tables.specs.declared.Table.{Table}

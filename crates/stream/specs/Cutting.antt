@@ -8,8 +8,8 @@ use lib.ListN.{length, drop}
 use borrow.Author.Tests.{le-ltb}
 use Rattle.laws.specs.Chain.{pass}
 use Rattle.crc.specs.Crc.{finished, checksum}
-use Rattle.image.specs.Layout.{imageWords, imageIn, markAt}
-use Rattle.image.specs.Loaded.{tooShort}
+use Rattle.layout.specs.Layout.{imageWords, imageIn, markAt}
+use Rattle.layout.specs.Loaded.{tooShort}
 use Rattle.tables.specs.Tables.{kindOf}
 use Rattle.rules.specs.Rules.{ruled}
 use Rattle.stream.specs.Header.{device, idOf, lengthOf, wrong}

@@ -8,7 +8,7 @@ use lib.Dec.{eqb}
 use lib.ListN.{length, getD, set, drop, replicate}
 use lib.Seq.{sets, set-append-left, set-at, drop-at}
 use Rattle.tables.specs.Rows.{rows}
-use Rattle.image.specs.Layout.{imageWords, entryWords, imageIn, entriesFrom, countsFrom, layout, imageOf, markAt}
+use Rattle.layout.specs.Layout.{imageWords, entryWords, imageIn, entriesFrom, countsFrom, layout, imageOf, markAt}
 use Rattle.image.specs.Images.{length-layout, length-entries, length-counts}
 use Rattle.rules.specs.Rules.{ruled}
 use Rattle.stream.specs.Paper.{Framed, refused, cut, passed, Outcome, refusedWith, ended, outcomeOf, framed, loaded, numbered, Whole, into}

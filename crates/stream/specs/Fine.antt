@@ -13,9 +13,9 @@ use lib.Seq.{getD-set-same, getD-set-other}
 use borrow.Author.Tests.{le-ltb, ltb-false, eqb-true, eqb-false, not-false}
 use Rattle.laws.specs.Chain.{none-first, none-rest}
 use Rattle.tables.specs.Rows.{Row, rows, blank, rowOf, sizeOf, mostOf, baseOf, room}
-use Rattle.image.specs.Layout.{imageWords, entryWords, imageIn, countOf, countAt, markAt}
-use Rattle.image.specs.Laws.{getD-in}
-use Rattle.image.specs.Loaded.{aboveFrom, overLimit}
+use Rattle.layout.specs.Layout.{imageWords, entryWords, imageIn, countOf, countAt, markAt}
+use Rattle.layout.specs.Layout.{getD-in}
+use Rattle.layout.specs.Loaded.{aboveFrom, overLimit}
 use Rattle.image.specs.Sound.{Within, within-limits}
 use Rattle.tables.specs.Tables.{indexOf, tables, kindOf}
 use Rattle.tables.specs.declared.Table.{Table}

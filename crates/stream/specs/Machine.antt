@@ -6,8 +6,8 @@ use lib.Dec.{ltb, eqb}
 use lib.ListN.{length, getD, set, drop, replicate}
 use Rattle.crc.specs.Crc.{wordIn, start, finished, checksum}
 use Rattle.tables.specs.Rows.{sizeOf, mostOf, baseOf}
-use Rattle.image.specs.Layout.{imageWords, imageIn, countOf, countAt, markAt}
-use Rattle.image.specs.Loaded.{tooShort, overLimit}
+use Rattle.layout.specs.Layout.{imageWords, imageIn, countOf, countAt, markAt}
+use Rattle.layout.specs.Loaded.{tooShort, overLimit}
 use Rattle.tables.specs.Tables.{indexOf, kindOf, tables}
 use Rattle.tables.specs.declared.Table.{Table}
 use Rattle.tables.specs.declared.Table.the-variants.{AddressLookup}

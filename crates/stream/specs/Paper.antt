@@ -6,10 +6,10 @@ use lib.Dec.{eqb}
 use lib.ListN.{length, getD, take, drop, set, replicate}
 use Rattle.crc.specs.Crc.{checksum}
 use Rattle.tables.specs.Rows.{sizeOf}
-use Rattle.image.specs.Layout.{imageWords, imageOf}
+use Rattle.layout.specs.Layout.{imageWords, imageOf}
 use Rattle.tables.specs.Tables.{kindOf}
 use Rattle.rules.specs.Rules.{ruled}
-use Rattle.image.specs.Loaded.{tooShort}
+use Rattle.layout.specs.Loaded.{tooShort}
 use Rattle.stream.specs.declared.Answer.{Answer}
 use Rattle.stream.specs.declared.Answer.the-variants.{Loaded, Refused}
 use Rattle.stream.specs.Header.{device, idOf, lengthOf, wrong}

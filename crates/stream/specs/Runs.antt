@@ -13,8 +13,8 @@ use lib.Seq.{sets, getD-set-other, drop-set-lt, length-sets}
 use borrow.Author.Tests.{ne-eqb}
 use Rattle.crc.specs.Crc.{wordIn, wordsIn}
 use Rattle.tables.specs.Rows.{sizeOf, baseOf}
-use Rattle.image.specs.Layout.{imageWords, entryWords, imageIn, countAt}
-use Rattle.image.specs.Laws.{getD-in}
+use Rattle.layout.specs.Layout.{imageWords, entryWords, imageIn, countAt}
+use Rattle.layout.specs.Layout.{getD-in}
 use Rattle.tables.specs.Tables.{indexOf}
 use Rattle.tables.specs.declared.Table.{Table}
 use Rattle.tables.specs.declared.Table.the-variants.{AddressLookup, Policing, VlanLookup, Forwarding, MacConfiguration, LookupParameters, ForwardingParameters, GeneralParameters, XmiiModeParameters}

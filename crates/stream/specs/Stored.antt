@@ -8,7 +8,7 @@ use native.Mathlib.Omega.{arith}
 use lib.ListN.{length, getD, take, drop, set, replicate, length-append, length-set}
 use lib.Seq.{sets, take-append-add, getD-set-same, getD-set-other}
 use Rattle.tables.specs.Rows.{Row, rows, blank, room, before, sizeOf, baseOf}
-use Rattle.image.specs.Layout.{padded, entriesFrom, countsFrom, layout, entryWords, countAt}
+use Rattle.layout.specs.Layout.{padded, entriesFrom, countsFrom, layout, entryWords, countAt}
 use Rattle.image.specs.Images.{length-entries}
 use Rattle.stream.specs.Paper.{put}
 

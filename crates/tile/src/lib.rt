@@ -28,13 +28,13 @@ fn tile_at(row: &[u64; CELLS], port: usize) -> Tile
 pub fn tile(image: &[u32], row: &[u64; CELLS], port: usize) -> Asked
     ensures { λ r. ⌜ Tiled (now (image .entry)) (now (row .entry)) port r ⌝ }
 {
-    if image::counts::too_short(image) {
+    if layout::too_short(image) {
         return Asked::Refused(31);
     }
     if 4 < port {
         return Asked::Refused(33);
     }
-    if image::counts::not_loaded(image) {
+    if layout::not_loaded(image) {
         return Asked::Shown(Tile::NotLoaded);
     }
     if ledger::range::out_of_range(image, row) {

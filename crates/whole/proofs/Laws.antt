@@ -7,7 +7,7 @@ use native.Mathlib.Omega.{arith}
 use lib.ListN.{length, set, take, drop, length-drop}
 use lib.Seq.{drop-drop, take-suc-set}
 use Rattle.laws.specs.Chain.{hit, pass, hit-ne, pass-ne}
-use Rattle.image.specs.Loaded.{tooShort}
+use Rattle.layout.specs.Loaded.{tooShort}
 use Rattle.stream.specs.Machine.{Machine, at, cleared, run, fresh}
 use Rattle.stream.specs.Paper.{Whole, asFound, loadedWords, wordsOf, loadedBytes}
 use Rattle.stream.specs.Bytes.{wordAt, words-from, words-none, words-split}

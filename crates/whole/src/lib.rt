@@ -8,7 +8,7 @@ ghost use mathlib.Core.Path.{_≡_};
 ghost use Prim.Native.Nat.{_+_, _<_, _≤_};
 ghost use lib.ListN.{length};
 ghost use Rattle.crc_long.specs.Turn.{AreTables};
-ghost use Rattle.image.specs.Layout.{imageWords};
+ghost use Rattle.layout.specs.Layout.{imageWords};
 ghost use Rattle.stream.specs.Fine.{Roomy, Fine};
 ghost use Rattle.stream.specs.Machine.{at, fresh, cleared, run};
 ghost use Rattle.stream.specs.Paper.{loadedWords, wordsOf, loadedBytes};
@@ -137,7 +137,7 @@ fn fresh_run(image: &mut [u32], words: &[u32]) -> Load
 pub fn load_words(image: &mut [u32], words: &[u32]) -> Answer
     ensures { λ r. ⌜ Ends (loadedWords (now (image .entry)) (now (words .entry))) r (now (image .exit)) ⌝ }
 {
-    if image::counts::too_short(image) {
+    if layout::too_short(image) {
         return Answer::Refused(31);
     }
     let end = fresh_run(image, words);
@@ -177,7 +177,7 @@ fn bytes_run(image: &mut [u32], bytes: &[u8]) -> Load
 pub fn load_bytes(image: &mut [u32], bytes: &[u8]) -> Answer
     ensures { λ r. ⌜ Ends (loadedBytes (now (image .entry)) (now (bytes .entry))) r (now (image .exit)) ⌝ }
 {
-    if image::counts::too_short(image) {
+    if layout::too_short(image) {
         return Answer::Refused(31);
     }
     if bytes.len() % 4 != 0 {

@@ -6,7 +6,7 @@ use native.Mathlib.Omega.{arith}
 use borrow.Author.Needs.{needs}
 use denote.Ref.{now}
 use Rattle.laws.specs.Scan.{Counting, counting-none, counting-more, counting-end}
-use Rattle.image.specs.Layout.{imageIn}
+use Rattle.layout.specs.Layout.{imageIn}
 use Rattle.image.specs.Fields.{index}
 use Rattle.broken.proofs.index_twice.Statement.{statement}
 use Rattle.broken.proofs.index_twice.Tie as tie

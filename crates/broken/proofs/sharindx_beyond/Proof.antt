@@ -9,7 +9,7 @@ use borrow.Author.Needs.{needs}
 use borrow.Author.Tests.{lt-ltb, le-ltb}
 use denote.Ref.{now}
 use Rattle.laws.specs.Scan.{some-below, some-none, some-not, some-found, some-end}
-use Rattle.image.specs.Layout.{imageIn, countOf}
+use Rattle.layout.specs.Layout.{imageIn, countOf}
 use Rattle.image.specs.Fields.{sharindx}
 use Rattle.broken.proofs.sharindx_beyond.Statement.{statement}
 use Rattle.broken.proofs.sharindx_beyond.Tie as tie

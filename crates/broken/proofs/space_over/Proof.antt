@@ -8,7 +8,7 @@ use lib.Dec.{ltb}
 use borrow.Author.Needs.{needs}
 use denote.Ref.{now}
 use Rattle.laws.specs.Scan.{total, total-none, total-more}
-use Rattle.image.specs.Layout.{imageIn}
+use Rattle.layout.specs.Layout.{imageIn}
 use Rattle.image.specs.Fields.{partSpc}
 use Rattle.broken.proofs.space_over.Statement.{statement}
 use Rattle.broken.proofs.space_over.Tie as tie

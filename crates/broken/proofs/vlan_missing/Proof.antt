@@ -11,7 +11,7 @@ use borrow.Author.Needs.{needs}
 use borrow.Author.Tests.{eq-eqb, ne-eqb, lt-ltb, le-ltb}
 use denote.Ref.{now}
 use Rattle.laws.specs.Scan.{some-below, some-none, some-not, some-found, some-end, first, first-none, flag, Marks}
-use Rattle.image.specs.Layout.{imageIn, countOf}
+use Rattle.layout.specs.Layout.{imageIn, countOf}
 use Rattle.image.specs.Fields.{vlanid, portVlanid}
 use Rattle.lookup.specs.Vlan.{hasVlan, vlanAt}
 use Rattle.lookup.specs.Groups.{from, none-more, first-past}

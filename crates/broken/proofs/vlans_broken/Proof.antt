@@ -11,7 +11,7 @@ use borrow.Author.Tests.{eq-eqb, ne-eqb}
 use denote.Ref.{now}
 use Rattle.laws.specs.Chain.{hit, pass}
 use Rattle.laws.specs.Scan.{Marks, Counting, counting-none, counting-more, counting-end}
-use Rattle.image.specs.Layout.{imageIn}
+use Rattle.layout.specs.Layout.{imageIn}
 use Rattle.image.specs.Fields.{vlanid}
 use Rattle.broken.specs.Broken.{vlanTwice}
 use Rattle.broken.proofs.vlans_broken.Statement.{statement}

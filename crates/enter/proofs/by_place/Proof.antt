@@ -2,7 +2,7 @@
 use mathlib.Core.Path.{subst}
 use borrow.Author.Needs.{needs}
 use denote.Ref.{now}
-use Rattle.image.specs.Layout.{imageIn}
+use Rattle.layout.specs.Layout.{imageIn}
 use Rattle.enter.specs.Laws.{Inside, is-kept-out, is-let-in}
 use Rattle.enter.proofs.by_place.Statement.{statement}
 use Rattle.enter.proofs.by_place.Tie as tie

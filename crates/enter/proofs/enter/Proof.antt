@@ -2,7 +2,7 @@
 use mathlib.Core.Path.{sym, ap, subst, _∙_}
 use borrow.Author.Needs.{needs}
 use denote.Ref.{now}
-use Rattle.image.specs.Layout.{imageIn}
+use Rattle.layout.specs.Layout.{imageIn}
 use Rattle.frame.specs.Laws.{Whole, whole}
 use Rattle.enter.specs.Enter.{byIntake, enterOf}
 use Rattle.enter.proofs.enter.Statement.{statement}

@@ -2,7 +2,7 @@
 use borrow.Author.Needs.{needs}
 use mathlib.Core.Path.{refl, sym, ap, _∙_}
 use Rattle.laws.specs.Chain.{hit-eq, pass-eq}
-use Rattle.image.specs.Layout.{imageIn}
+use Rattle.layout.specs.Layout.{imageIn}
 use denote.Ref.{now}
 use Rattle.enter.specs.Steps.{placedAt, placedOf}
 use Rattle.enter.proofs.place.Statement.{statement}

@@ -4,7 +4,7 @@ use Prim.Native.Nat.{ℕ, _+_, _-_, _≤_, zero-le}
 use native.Mathlib.Omega.{arith}
 use borrow.Author.Needs.{needs}
 use denote.Ref.{now}
-use Rattle.image.specs.Layout.{imageIn}
+use Rattle.layout.specs.Layout.{imageIn}
 use Rattle.ledger.specs.Row.{units, credit, start, many}
 use Rattle.fresh.specs.Fresh.{freshCell, freshOf, Filling, filling-none, partition-more, meters-on, meter-more, fresh-end}
 use Rattle.fresh.proofs.fresh_row.Statement.{statement}

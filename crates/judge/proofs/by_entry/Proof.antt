@@ -2,7 +2,7 @@
 use mathlib.Core.Path.{sym, ap, subst, _∙_}
 use borrow.Author.Needs.{needs}
 use denote.Ref.{now}
-use Rattle.image.specs.Layout.{imageIn}
+use Rattle.layout.specs.Layout.{imageIn}
 use Rattle.enter.specs.Laws.{Through}
 use Rattle.judge.specs.Judge.{byEntry}
 use Rattle.judge.proofs.by_entry.Statement.{statement}

@@ -7,7 +7,7 @@ use borrow.Author.Needs.{needs}
 use borrow.Author.Tests.{ltb-false}
 use denote.Ref.{now}
 use Rattle.laws.specs.Chain.{hit, pass, pass-lt, chain}
-use Rattle.image.specs.Layout.{imageIn}
+use Rattle.layout.specs.Layout.{imageIn}
 use Rattle.tables.specs.Rows.{sizeOf}
 use Rattle.image.specs.Sound.{within-limits}
 use Rattle.tables.specs.Tables.{indexOf}

@@ -4,7 +4,7 @@ use Prim.Native.Nat.{ℕ, _+_}
 use borrow.Author.Needs.{needs}
 use lib.ListN.{length}
 use denote.Ref.{now}
-use Rattle.image.specs.Layout.{imageIn}
+use Rattle.layout.specs.Layout.{imageIn}
 use Rattle.plan.specs.Police.{policedOf}
 use Rattle.plan.specs.Plan.{byPolicer, planOf}
 use Rattle.plan.specs.Laws.{Loaded, policed}

@@ -3,7 +3,7 @@ use borrow.Author.Needs.{needs}
 use mathlib.Core.Path.{ap, _∙_}
 use Prim.Native.Nat.{ℕ}
 use denote.Ref.{now}
-use Rattle.image.specs.Layout.{imageIn}
+use Rattle.layout.specs.Layout.{imageIn}
 use Rattle.plan.specs.Police.{policedBy, policedOf}
 use Rattle.plan.proofs.police.Statement.{statement}
 use Rattle.plan.proofs.police.Tie as tie

@@ -5,7 +5,7 @@ use Prim.Native.Nat.{ℕ}
 use borrow.Author.Tests.{leb-false}
 use denote.Ref.{now}
 use Rattle.laws.specs.Chain.{hit, pass}
-use Rattle.image.specs.Layout.{imageIn}
+use Rattle.layout.specs.Layout.{imageIn}
 use Rattle.plan.specs.Police.{meteredBy}
 use Rattle.plan.proofs.policed_by.Statement.{statement}
 use Rattle.plan.proofs.policed_by.Tie as tie

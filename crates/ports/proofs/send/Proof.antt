@@ -3,7 +3,7 @@ use borrow.Author.Needs.{needs}
 use mathlib.Core.Path.{ap, _∙_}
 use Prim.Native.Nat.{ℕ}
 use denote.Ref.{now}
-use Rattle.image.specs.Layout.{imageIn}
+use Rattle.layout.specs.Layout.{imageIn}
 use Rattle.ports.specs.Ports.{sendingAt, sendingOf}
 use Rattle.ports.proofs.send.Statement.{statement}
 use Rattle.ports.proofs.send.Tie as tie

@@ -5,7 +5,7 @@ use Prim.Native.Nat.{ℕ}
 use lib.Bits.{bitAnd}
 use denote.Ref.{now}
 use Rattle.laws.specs.Chain.{hit-eq, pass-eq}
-use Rattle.image.specs.Layout.{imageIn}
+use Rattle.layout.specs.Layout.{imageIn}
 use Rattle.ports.specs.Ports.{towards, wantedOf}
 use Rattle.ports.proofs.wanted.Statement.{statement}
 use Rattle.ports.proofs.wanted.Tie as tie

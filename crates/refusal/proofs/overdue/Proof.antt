@@ -2,7 +2,7 @@
 use mathlib.Core.Path.{sym, _∙_, ap}
 use borrow.Author.Needs.{needs}
 use denote.Ref.{now}
-use Rattle.image.specs.Layout.{imageIn}
+use Rattle.layout.specs.Layout.{imageIn}
 use Rattle.stream.specs.Machine.{overdueIn}
 use Rattle.stream.specs.declared.Phase.{Phase}
 use Rattle.refusal.proofs.overdue.Statement.{statement}

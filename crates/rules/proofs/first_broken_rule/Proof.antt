@@ -3,7 +3,7 @@ use borrow.Author.Needs.{needs}
 use mathlib.Core.Path.{sym, _∙_}
 use denote.Ref.{now}
 use Rattle.laws.specs.Chain.{flags}
-use Rattle.image.specs.Layout.{imageIn}
+use Rattle.layout.specs.Layout.{imageIn}
 use Rattle.image.specs.Sound.{complete}
 use Rattle.rules.specs.Rules.{ruled}
 use Rattle.rules.proofs.first_broken_rule.Statement.{statement}

@@ -7,7 +7,7 @@ use native.Mathlib.Omega.{arith}
 use lib.ListN.{length, set, drop, replicate, length-set}
 use borrow.Author.Fill.{fill-more}
 use borrow.Author.Needs.{needs}
-use Rattle.image.specs.Layout.{imageWords}
+use Rattle.layout.specs.Layout.{imageWords}
 use Rattle.stream.specs.Machine.{cleared}
 use Rattle.states.proofs.clear.Statement.{statement}
 use Rattle.states.proofs.clear.Tie as tie

@@ -6,7 +6,7 @@ use Rattle.whole.proofs.Laws.{ends-as, words-31, words-on}
 use Rattle.refusal.proofs.Laws.{has-room}
 use Rattle.states.proofs.Laws.{leaves-at}
 use Prim.Native.Nat.{ℕ, _≤_}
-use Rattle.image.specs.Layout.{imageWords}
+use Rattle.layout.specs.Layout.{imageWords}
 use Rattle.stream.specs.Ends.{settled}
 use Rattle.whole.proofs.load_words.Statement.{statement}
 use Rattle.whole.proofs.load_words.Tie as tie

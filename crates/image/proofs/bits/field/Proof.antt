@@ -6,7 +6,7 @@ use mathlib.Core.List.{List}
 use lib.ListN.{take, drop}
 use denote.Ref.{now}
 use borrow.Author.Needs.{needs}
-use Rattle.image.specs.Layout.{imageWords, imageIn}
+use Rattle.layout.specs.Layout.{imageWords, imageIn}
 use Rattle.image.specs.Fields.{number, bits}
 use Rattle.image.specs.Laws.{Words, words-in, field-in-word, field-in-pair}
 use Rattle.image.proofs.bits.field.Statement.{statement}

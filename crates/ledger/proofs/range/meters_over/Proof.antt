@@ -2,7 +2,7 @@
 use Prim.Native.Nat.{_-_, _≤_}
 use borrow.Author.Needs.{needs}
 use Rattle.laws.specs.Scan.{some-below}
-use Rattle.image.specs.Layout.{imageIn}
+use Rattle.layout.specs.Layout.{imageIn}
 use Rattle.ledger.specs.Above.{Tells, tells-none, meterOff, meter-more, not-loaded, meters-end}
 use Rattle.ledger.proofs.range.meters_over.Statement.{statement}
 use Rattle.ledger.proofs.range.meters_over.Tie as tie

@@ -3,7 +3,7 @@ use Prim.Native.Nat.{_-_, _≤_}
 use lib.Dec.{ltb}
 use borrow.Author.Needs.{needs}
 use Rattle.laws.specs.Scan.{some-below}
-use Rattle.image.specs.Layout.{imageIn}
+use Rattle.layout.specs.Layout.{imageIn}
 use Rattle.image.specs.Fields.{partSpc}
 use Rattle.ledger.specs.Row.{units, cell}
 use Rattle.ledger.specs.Above.{Tells, tells-none, tells-of, tells-more, tells-end}

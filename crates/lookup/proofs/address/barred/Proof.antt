@@ -6,7 +6,7 @@ use native.Mathlib.Omega.{arith}
 use borrow.Author.Needs.{needs}
 use denote.Ref.{now}
 use Rattle.laws.specs.Scan.{some-below, some-none}
-use Rattle.image.specs.Layout.{imageIn, countOf}
+use Rattle.layout.specs.Layout.{imageIn, countOf}
 use Rattle.lookup.specs.Address.{bars}
 use Rattle.lookup.specs.Groups.{none-yet, none-up-to, some-rest, some-in}
 use Rattle.lookup.specs.Leading.{none-bar}

@@ -6,7 +6,7 @@ use native.Mathlib.Omega.{arith}
 use native.Mathlib.Nat.{mod-lt, add-zero, le-antisymm}
 use lib.Pow.{pow-pos}
 use borrow.Author.Needs.{needs}
-use Rattle.image.specs.Layout.{imageIn, countOf}
+use Rattle.layout.specs.Layout.{imageIn, countOf}
 use Rattle.image.specs.Fields.{index}
 use Rattle.lookup.specs.Address.{matches}
 use Rattle.lookup.specs.Least.{Leads, leads-at, leads-taken, leads-kept}

@@ -7,7 +7,7 @@ use native.Mathlib.Omega.{arith}
 use borrow.Author.Needs.{needs}
 use denote.Ref.{now}
 use Rattle.laws.specs.Scan.{some-below, some-none}
-use Rattle.image.specs.Layout.{imageIn}
+use Rattle.layout.specs.Layout.{imageIn}
 use Rattle.lookup.specs.Address.{likeAddress}
 use Rattle.lookup.specs.Groups.{from, none-further, not-none}
 use Rattle.lookup.proofs.address.next_like.Statement.{statement}

@@ -7,7 +7,7 @@ use native.Mathlib.Omega.{arith}
 use lib.Dec.{eqb}
 use borrow.Author.Needs.{needs}
 use Rattle.laws.specs.Scan.{flag}
-use Rattle.image.specs.Layout.{imageIn}
+use Rattle.layout.specs.Layout.{imageIn}
 use Rattle.lookup.specs.Groups.{from, Clear, clear-none, clear-more, clear-end}
 use Rattle.lookup.specs.Address.{likeAddress}
 use Rattle.lookup.proofs.address.none_like.Statement.{statement}

@@ -5,7 +5,7 @@ use Prim.Native.Nat.{_-_, _≤_}
 use native.Mathlib.Omega.{arith}
 use borrow.Author.Needs.{needs}
 use Rattle.laws.specs.Scan.{some-below, some-none, some-not, some-found, some-end}
-use Rattle.image.specs.Layout.{imageIn}
+use Rattle.layout.specs.Layout.{imageIn}
 use Rattle.lookup.specs.Address.{bars}
 use Rattle.lookup.specs.Groups.{from}
 use Rattle.lookup.proofs.address.one_bars.Statement.{statement}

@@ -10,7 +10,7 @@ use borrow.Author.Needs.{needs}
 use borrow.Author.Tests.{eq-eqb, ne-eqb}
 use denote.Ref.{now}
 use Rattle.laws.specs.Scan.{first, first-none}
-use Rattle.image.specs.Layout.{imageIn}
+use Rattle.layout.specs.Layout.{imageIn}
 use Rattle.image.specs.Fields.{vlanid}
 use Rattle.lookup.specs.Vlan.{hasVlan}
 use Rattle.lookup.specs.Groups.{first-past, none-more, not-none}

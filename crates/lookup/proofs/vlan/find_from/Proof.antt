@@ -6,7 +6,7 @@ use borrow.Author.Needs.{needs}
 use borrow.Author.Tests.{eq-eqb, ne-eqb}
 use denote.Ref.{now}
 use Rattle.laws.specs.Scan.{first, first-more, first-found, first-end}
-use Rattle.image.specs.Layout.{imageIn, countOf}
+use Rattle.layout.specs.Layout.{imageIn, countOf}
 use Rattle.lookup.specs.Vlan.{hasVlan}
 use Rattle.lookup.proofs.vlan.find_from.Statement.{statement}
 use Rattle.lookup.proofs.vlan.find_from.Tie as tie

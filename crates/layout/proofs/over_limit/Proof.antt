@@ -1,9 +1,9 @@
--- `image::counts::over_limit`: a test a row, in the rows' order.
+-- `layout::over_limit`: a test a row, in the rows' order.
 use borrow.Author.Needs.{needs}
 use Rattle.laws.specs.Chain.{flags}
-use Rattle.image.specs.Loaded.{overLimit}
-use Rattle.image.proofs.counts.over_limit.Statement.{statement}
-use Rattle.image.proofs.counts.over_limit.Tie as tie
+use Rattle.layout.specs.Loaded.{overLimit}
+use Rattle.layout.proofs.over_limit.Statement.{statement}
+use Rattle.layout.proofs.over_limit.Tie as tie
 
 pub over-limit-spec : {M : Type 1} → statement M
 unfolding overLimit

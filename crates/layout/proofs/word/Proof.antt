@@ -1,9 +1,9 @@
--- `image::counts::word`: a word of the image is the buffer's.
+-- `layout::word`: a word of the image is the buffer's.
 use borrow.Author.Needs.{needs}
 use mathlib.Core.Path.{sym, _∙_}
-use Rattle.image.specs.Laws.{getD-in}
-use Rattle.image.proofs.counts.word.Statement.{statement}
-use Rattle.image.proofs.counts.word.Tie as tie
+use Rattle.layout.specs.Layout.{getD-in}
+use Rattle.layout.proofs.word.Statement.{statement}
+use Rattle.layout.proofs.word.Tie as tie
 
 pub word-spec : {M : Type 1} → statement M
 word-spec =

@@ -4,9 +4,9 @@ ghost use Prim.Native.Nat.{_<_, _≤_};
 ghost use lib.ListN.{length, getD, drop};
 ghost use mathlib.Core.Bool.{not};
 ghost use lib.Dec.{ltb, eqb};
-ghost use Rattle.image.specs.Layout.{imageWords, imageIn, countOf, markOf};
+ghost use Rattle.layout.specs.Layout.{imageWords, imageIn, countOf, markOf};
 ghost use Rattle.tables.specs.Rows.{rows};
-ghost use Rattle.image.specs.Loaded.{tooShort, aboveFrom, overLimit, notSingle, incomplete, notLoaded};
+ghost use Rattle.layout.specs.Loaded.{tooShort, aboveFrom, overLimit, notSingle, incomplete, notLoaded};
 
 // The image's words: 11,430 of entries, 26 for counts and state.
 pub const IMAGE_WORDS: usize = 11456;

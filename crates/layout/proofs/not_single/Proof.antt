@@ -1,8 +1,8 @@
--- `image::counts::not_single`: the last three tests of rule 20.
+-- `layout::not_single`: the last three tests of rule 20.
 use borrow.Author.Needs.{needs}
 use Rattle.laws.specs.Chain.{flags}
-use Rattle.image.proofs.counts.not_single.Statement.{statement}
-use Rattle.image.proofs.counts.not_single.Tie as tie
+use Rattle.layout.proofs.not_single.Statement.{statement}
+use Rattle.layout.proofs.not_single.Tie as tie
 
 pub not-single-spec : {M : Type 1} → statement M
 not-single-spec =

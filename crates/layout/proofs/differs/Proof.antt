@@ -1,11 +1,11 @@
--- `image::counts::differs`: the count that was read is the image's.
+-- `layout::differs`: the count that was read is the image's.
 use borrow.Author.Needs.{needs}
 use mathlib.Core.Path.{ap}
 use mathlib.Core.Bool.{not}
 use Prim.Native.Nat.{ℕ}
 use lib.Dec.{eqb}
-use Rattle.image.proofs.counts.differs.Statement.{statement}
-use Rattle.image.proofs.counts.differs.Tie as tie
+use Rattle.layout.proofs.differs.Statement.{statement}
+use Rattle.layout.proofs.differs.Tie as tie
 
 pub differs-spec : {M : Type 1} → statement M
 differs-spec =

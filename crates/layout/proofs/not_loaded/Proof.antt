@@ -1,9 +1,9 @@
--- `image::counts::not_loaded`: the mark, the limits, then rule 20.
+-- `layout::not_loaded`: the mark, the limits, then rule 20.
 use borrow.Author.Needs.{needs}
 use Rattle.laws.specs.Chain.{chain, carried}
-use Rattle.image.specs.Loaded.{notLoaded}
-use Rattle.image.proofs.counts.not_loaded.Statement.{statement}
-use Rattle.image.proofs.counts.not_loaded.Tie as tie
+use Rattle.layout.specs.Loaded.{notLoaded}
+use Rattle.layout.proofs.not_loaded.Statement.{statement}
+use Rattle.layout.proofs.not_loaded.Tie as tie
 
 pub not-loaded-spec : {M : Type 1} → statement M
 unfolding notLoaded

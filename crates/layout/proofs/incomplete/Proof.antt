@@ -1,9 +1,9 @@
--- `image::counts::incomplete`: rule 20's tests, in its order.
+-- `layout::incomplete`: rule 20's tests, in its order.
 use borrow.Author.Needs.{needs}
 use Rattle.laws.specs.Chain.{flags}
-use Rattle.image.specs.Loaded.{incomplete}
-use Rattle.image.proofs.counts.incomplete.Statement.{statement}
-use Rattle.image.proofs.counts.incomplete.Tie as tie
+use Rattle.layout.specs.Loaded.{incomplete}
+use Rattle.layout.proofs.incomplete.Statement.{statement}
+use Rattle.layout.proofs.incomplete.Tie as tie
 
 pub incomplete-spec : {M : Type 1} → statement M
 unfolding incomplete

@@ -3,6 +3,7 @@ use mathlib.Core.Path.{_≡_}
 use mathlib.Core.List.{List, [], _∷_, _++_}
 use Prim.Native.Nat.{ℕ, zero, suc, _+_, _-_, _*_, _/_, _<_, _≤_}
 use lib.ListN.{length, getD, take, drop, replicate}
+use lib.Seq.{getD-take}
 use Rattle.tables.specs.Rows.{Row, rows, room, before, sizeOf, mostOf, baseOf}
 
 -- 11,430 words of entries
@@ -66,3 +67,8 @@ layout mark lists = entriesFrom 0 rows lists ++ (countsFrom 0 rows lists ++ (mar
 -- "a loaded image holds the entries, the counts and the mark that it is loaded, all fixed by the entry lists alone"
 abbrev pub imageOf : List (List ℕ) → List ℕ
 imageOf lists = layout 1 lists
+
+-- ---- a word of the image is the buffer's
+pub getD-in : (buffer : List ℕ) (j : ℕ) → j < imageWords → getD (imageIn buffer) j 0 ≡ getD buffer j 0
+unfolding imageIn
+getD-in buffer j h = getD-take imageWords buffer j 0 h

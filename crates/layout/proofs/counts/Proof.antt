@@ -1,10 +1,10 @@
--- `image::counts::counts`: the count that was read is the image's.
+-- `layout::counts`: the count that was read is the image's.
 use borrow.Author.Needs.{needs}
 use mathlib.Core.Path.{ap}
 use Prim.Native.Nat.{ℕ}
 use lib.Dec.{eqb}
-use Rattle.image.proofs.counts.counts.Statement.{statement}
-use Rattle.image.proofs.counts.counts.Tie as tie
+use Rattle.layout.proofs.counts.Statement.{statement}
+use Rattle.layout.proofs.counts.Tie as tie
 
 pub counts-spec : {M : Type 1} → statement M
 counts-spec =

@@ -1,10 +1,10 @@
--- `image::counts::above`: the count that was read is the image's.
+-- `layout::above`: the count that was read is the image's.
 use borrow.Author.Needs.{needs}
 use mathlib.Core.Path.{ap}
 use Prim.Native.Nat.{ℕ}
 use lib.Dec.{ltb}
-use Rattle.image.proofs.counts.above.Statement.{statement}
-use Rattle.image.proofs.counts.above.Tie as tie
+use Rattle.layout.proofs.above.Statement.{statement}
+use Rattle.layout.proofs.above.Tie as tie
 
 pub above-spec : {M : Type 1} → statement M
 above-spec =

@@ -5,7 +5,7 @@ use Prim.Native.Nat.{ℕ, zero, suc}
 use lib.Dec.{ltb, eqb}
 use lib.ListN.{length}
 use Rattle.tables.specs.Rows.{Row, rows}
-use Rattle.image.specs.Layout.{imageWords, countOf, markOf}
+use Rattle.layout.specs.Layout.{imageWords, countOf, markOf}
 
 -- 31: "image buffer too short"
 abbrev pub tooShort : List ℕ → Bool

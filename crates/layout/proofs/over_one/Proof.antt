@@ -1,8 +1,8 @@
--- `image::counts::over_one`: the last four of the rows' tests.
+-- `layout::over_one`: the last four of the rows' tests.
 use borrow.Author.Needs.{needs}
 use Rattle.laws.specs.Chain.{flags}
-use Rattle.image.proofs.counts.over_one.Statement.{statement}
-use Rattle.image.proofs.counts.over_one.Tie as tie
+use Rattle.layout.proofs.over_one.Statement.{statement}
+use Rattle.layout.proofs.over_one.Tie as tie
 
 pub over-one-spec : {M : Type 1} → statement M
 over-one-spec =
