@@ -1,11 +1,19 @@
-// A write that brings data of one block alone: where its words go, and the copy of them. Only loads from C and Rust take data so.
+// Data of one block alone: where the words of a write go that brings nothing else, the copy of them, and the load state after them. Only loads from C
+// and Rust take data so.
+use crc::Both;
+use stream::Load;
 use tables::Table;
 ghost use mathlib.Core.Path.{_≡_};
-ghost use Prim.Native.Nat.{_+_, _≤_};
+ghost use Prim.Native.Nat.{_+_, _<_, _≤_};
 ghost use lib.ListN.{length};
 ghost use lib.Seq.{sets};
 ghost use Rattle.layout.specs.Layout.{imageWords};
 ghost use Rattle.tables.specs.Tables.{indexOf};
+ghost use Rattle.crc.specs.Crc.{wordsIn};
+ghost use Rattle.stream.specs.Fine.{Roomy};
+ghost use Rattle.stream.specs.Machine.{at, run};
+ghost use Rattle.stream.specs.declared.Phase.the-variants.{Data};
+ghost use Rattle.states.specs.Leaves.{Leaves};
 ghost use Rattle.one_block.specs.Data.{dataPlace};
 
 // Where a write's n words go inside a block, where they are data of this block alone and no test refuses them; else behind the image.
@@ -39,4 +47,25 @@ pub fn copy(image: &mut [u32], place: usize, words: &[u32])
         image[place + i] = words[i];
         i += 1;
     }
+}
+
+// A run of data words, no more than are due, whose sums are known.
+pub fn stored(image: &mut [u32], load: Load, words: &[u32], sums: Both) -> Load
+    requires { ⌜ (imageWords ≤ length (now image)) × Roomy Data load (now image) ⌝ }
+    requires { ⌜ (0 < length (now words)) × (length (now words) ≤ load .due) × (load .phase ≡ Data) ⌝ }
+    requires { ⌜ (sums .block ≡ wordsIn (load .block) (now words)) × (sums .stream ≡ wordsIn (load .stream) (now words)) ⌝ }
+    ensures { λ r. ⌜ Leaves (run (at load (now (image .entry))) (now (words .entry))) r (now (image .exit)) ⌝ }
+{
+    let table = load.table;
+    let placed = load.placed;
+    let due = load.due;
+    let place = placing::place_of(image, table, placed, due);
+    copy(image, place, words);
+    states::filling(
+        table,
+        placed + words.len(),
+        due - words.len(),
+        sums.stream,
+        sums.block,
+    )
 }

@@ -7,7 +7,6 @@ use stream::Phase;
 ghost use mathlib.Core.Path.{_≡_};
 ghost use Prim.Native.Nat.{_<_, _≤_};
 ghost use lib.ListN.{length};
-ghost use Rattle.crc.specs.Crc.{wordsIn};
 ghost use Rattle.layout.specs.Layout.{imageWords};
 ghost use Rattle.stream.specs.Fine.{Roomy, Fine};
 ghost use Rattle.stream.specs.Machine.{at, run};
@@ -15,28 +14,7 @@ ghost use Rattle.stream.specs.declared.Phase.the-variants.{Data};
 ghost use Rattle.states.specs.Leaves.{Leaves, Writes};
 ghost use Rattle.quick.specs.Takes.{Takes};
 
-// A run of data words, no more than are due, whose sums are known.
-pub fn stored(image: &mut [u32], load: Load, words: &[u32], sums: Both) -> Load
-    requires { ⌜ (imageWords ≤ length (now image)) × Roomy Data load (now image) ⌝ }
-    requires { ⌜ (0 < length (now words)) × (length (now words) ≤ load .due) × (load .phase ≡ Data) ⌝ }
-    requires { ⌜ (sums .block ≡ wordsIn (load .block) (now words)) × (sums .stream ≡ wordsIn (load .stream) (now words)) ⌝ }
-    ensures { λ r. ⌜ Leaves (run (at load (now (image .entry))) (now (words .entry))) r (now (image .exit)) ⌝ }
-{
-    let table = load.table;
-    let placed = load.placed;
-    let due = load.due;
-    let place = placing::place_of(image, table, placed, due);
-    one_block::copy(image, place, words);
-    states::filling(
-        table,
-        placed + words.len(),
-        due - words.len(),
-        sums.stream,
-        sums.block,
-    )
-}
-
-// The same by the short tables.
+// A run of data words, no more than are due, by the short tables.
 fn data_run(image: &mut [u32], load: Load, words: &[u32]) -> Load
     requires { ⌜ (imageWords ≤ length (now image)) × Roomy Data load (now image) ⌝ }
     requires { ⌜ (0 < length (now words)) × (length (now words) ≤ load .due) × (load .phase ≡ Data) ⌝ }
@@ -46,7 +24,7 @@ fn data_run(image: &mut [u32], load: Load, words: &[u32]) -> Load
         block: load.block,
         stream: load.stream,
     };
-    stored(image, load, words, crc_short::words_in_both(sums, words))
+    one_block::stored(image, load, words, crc_short::words_in_both(sums, words))
 }
 
 // A load state after `count` words.

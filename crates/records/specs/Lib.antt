@@ -1,5 +1,4 @@
 -- The frame list: what stands at a place of it, what an answer of the code says in the paper's numbers, and the walk from record to record.
-pub mod Bytes
 pub mod List
 pub mod Answer
 pub mod Laws

@@ -1,13 +1,10 @@
 -- What a function leaves, carried over to an equal machine, and back.
-use mathlib.Core.Path.{_≡_, sym, _∙_, ap, subst}
+use mathlib.Core.Path.{_≡_, _∙_, ap}
 use mathlib.Core.List.{List}
 use Prim.Native.Nat.{ℕ}
 use Rattle.stream.specs.Machine.{Machine, at}
-use Rattle.stream.specs.Ends.{settledIn, settled}
-use Rattle.stream.specs.declared.Phase.{Phase}
-use Rattle.stream.specs.declared.Answer.{Answer}
 use Rattle.stream.specs.declared.Load.{Load}
-use Rattle.states.specs.Leaves.{Leaves, Ends}
+use Rattle.states.specs.Leaves.{Leaves}
 
 -- what is left is also an equal machine's
 pub so : {m n : Machine} {r : Load} {b : List ℕ} → m ≡ n → Leaves m r b → Leaves n r b
@@ -18,7 +15,3 @@ leaves-at {m} {r} {b} l = ap (λ (x : Load). at x b) (l .state) ∙ ap (λ (x : 
 
 pub at-leaves : {m : Machine} {r : Load} {b : List ℕ} → at r b ≡ m → Leaves m r b
 at-leaves e = record { state = ap (λ (x : Machine). x .load) e; kept = ap (λ (x : Machine). x .buffer) e }
-
--- a run that has ended, by its phase
-pub settles : (l : Load) (buffer : List ℕ) (p : Phase) (r : Answer) (after : List ℕ) → l .phase ≡ p → Ends (settledIn p buffer) r after → Ends (settled (at l buffer)) r after
-settles l buffer p r after e h = subst (λ (x : Phase). Ends (settledIn x buffer) r after) (sym e) h

@@ -7,10 +7,9 @@ ghost use mathlib.Core.Path.{_≡_};
 ghost use Prim.Native.Nat.{_≤_};
 ghost use lib.ListN.{length};
 ghost use Rattle.layout.specs.Layout.{imageWords};
-ghost use Rattle.stream.specs.Machine.{at, fresh, idle, headed, sized, filling, told, cleared, refuse, answerOf, begun};
+ghost use Rattle.stream.specs.Machine.{fresh, idle, headed, sized, filling, told, cleared, refuse, answerOf, begun};
 ghost use Rattle.stream.specs.Paper.{numbered};
-ghost use Rattle.stream.specs.Ends.{cutShort, settled};
-ghost use Rattle.states.specs.Leaves.{Leaves, Ends};
+ghost use Rattle.states.specs.Leaves.{Leaves};
 
 // The answer and the load state that a write leaves.
 pub struct Wrote {
@@ -110,7 +109,7 @@ pub fn filling(table: Table, placed: usize, due: usize, stream: u32, block: u32)
 }
 
 // An answer by its number.
-fn numbered(n: u32) -> Answer
+pub fn numbered(n: u32) -> Answer
     ensures { λ r. ⌜ r ≡ numbered n ⌝ }
 {
     if n == 0 {
@@ -164,29 +163,4 @@ pub fn refuse(image: &mut [u32], n: u32) -> Load
 {
     clear(image);
     told(n)
-}
-
-// 10: the words ended before the end block was complete.
-fn cut_short(image: &mut [u32]) -> Answer
-    requires { ⌜ imageWords ≤ length (now image) ⌝ }
-    ensures { λ r. ⌜ Ends (cutShort (now (image .entry))) r (now (image .exit)) ⌝ }
-{
-    clear(image);
-    Answer::Refused(10)
-}
-
-// A whole load's run has ended: its answer, or 10 where it has none.
-pub fn settle(image: &mut [u32], load: Load) -> Answer
-    requires { ⌜ imageWords ≤ length (now image) ⌝ }
-    ensures { λ r. ⌜ Ends (settled (at load (now (image .entry)))) r (now (image .exit)) ⌝ }
-{
-    let phase = load.phase;
-    match phase {
-        Phase::Device => cut_short(image),
-        Phase::Id => cut_short(image),
-        Phase::Length => cut_short(image),
-        Phase::Sum => cut_short(image),
-        Phase::Data => cut_short(image),
-        Phase::Told(n) => numbered(n),
-    }
 }

@@ -11,8 +11,9 @@ use Rattle.layout.specs.Loaded.{tooShort}
 use Rattle.stream.specs.Machine.{Machine, at, cleared, run, fresh}
 use Rattle.stream.specs.Paper.{Whole, asFound, loadedWords, wordsOf, loadedBytes}
 use Rattle.stream.specs.Bytes.{wordAt, words-from, words-none, words-split}
-use Rattle.stream.specs.Ends.{settled, whole}
+use Rattle.stream.specs.Ends.{settledIn, settled, whole}
 use Rattle.stream.specs.declared.Answer.{Answer}
+use Rattle.stream.specs.declared.Phase.{Phase}
 use Rattle.stream.specs.declared.Load.{Load}
 use Rattle.states.specs.Leaves.{Ends}
 use Rattle.stream.specs.Runs.{run-append}
@@ -83,3 +84,7 @@ module _ (buffer bytes : List ℕ) (short : Bool) (e : short ≡ tooShort buffer
   pub bytes-whole : short ≡ false → length bytes % 4 ≡ 0 → settled (run (at fresh (cleared buffer)) (wordsOf bytes)) ≡ loadedBytes buffer bytes
   unfolding loadedBytes
   bytes-whole h q = whole buffer (wordsOf bytes) ∙ pass short _ _ _ _ e h (pass-ne (length bytes % 4) 0 _ _ _ q refl)
+
+-- a run that has ended, by its phase
+pub settles : (l : Load) (buffer : List ℕ) (p : Phase) (r : Answer) (after : List ℕ) → l .phase ≡ p → Ends (settledIn p buffer) r after → Ends (settled (at l buffer)) r after
+settles l buffer p r after e h = subst (λ (x : Phase). Ends (settledIn x buffer) r after) (sym e) h

@@ -9,6 +9,7 @@ ghost use Prim.Native.Nat.{_+_, _<_, _≤_};
 ghost use lib.ListN.{length};
 ghost use Rattle.crc_long.specs.Turn.{AreTables};
 ghost use Rattle.layout.specs.Layout.{imageWords};
+ghost use Rattle.stream.specs.Ends.{cutShort, settled};
 ghost use Rattle.stream.specs.Fine.{Roomy, Fine};
 ghost use Rattle.stream.specs.Machine.{at, fresh, cleared, run};
 ghost use Rattle.stream.specs.Paper.{loadedWords, wordsOf, loadedBytes};
@@ -35,7 +36,7 @@ fn data_run_long(
         block: load.block,
         stream: load.stream,
     };
-    quick::stored(
+    one_block::stored(
         image,
         load,
         words,
@@ -96,6 +97,31 @@ fn run_long(
     state
 }
 
+// 10: the words ended before the end block was complete.
+fn cut_short(image: &mut [u32]) -> Answer
+    requires { ⌜ imageWords ≤ length (now image) ⌝ }
+    ensures { λ r. ⌜ Ends (cutShort (now (image .entry))) r (now (image .exit)) ⌝ }
+{
+    states::clear(image);
+    Answer::Refused(10)
+}
+
+// A whole load's run has ended: its answer, or 10 where it has none.
+fn settle(image: &mut [u32], load: Load) -> Answer
+    requires { ⌜ imageWords ≤ length (now image) ⌝ }
+    ensures { λ r. ⌜ Ends (settled (at load (now (image .entry)))) r (now (image .exit)) ⌝ }
+{
+    let phase = load.phase;
+    match phase {
+        Phase::Device => cut_short(image),
+        Phase::Id => cut_short(image),
+        Phase::Length => cut_short(image),
+        Phase::Sum => cut_short(image),
+        Phase::Data => cut_short(image),
+        Phase::Told(n) => states::numbered(n),
+    }
+}
+
 // Words from a fresh load state, by the long tables.
 fn fresh_long(image: &mut [u32], words: &[u32]) -> Load
     requires { ⌜ imageWords ≤ length (now image) ⌝ }
@@ -141,7 +167,7 @@ pub fn load_words(image: &mut [u32], words: &[u32]) -> Answer
         return Answer::Refused(31);
     }
     let end = fresh_run(image, words);
-    states::settle(image, end)
+    settle(image, end)
 }
 
 // Bytes of 256 words at most: their words first, then these at once.
@@ -184,5 +210,5 @@ pub fn load_bytes(image: &mut [u32], bytes: &[u8]) -> Answer
         return Answer::Refused(9);
     }
     let end = bytes_run(image, bytes);
-    states::settle(image, end)
+    settle(image, end)
 }

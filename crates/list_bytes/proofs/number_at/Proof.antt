@@ -1,12 +1,12 @@
--- `records::bytes::number_at`: after i bytes n is the number that they make.
+-- `list_bytes::number_at`: after i bytes n is the number that they make.
 use mathlib.Core.Path.{_≡_}
 use Prim.Native.Nat.{_-_, _^_, _<_, _≤_}
 use native.Mathlib.Omega.{arith}
 use borrow.Author.Needs.{needs}
-use Rattle.records.specs.Bytes.{numberAt}
-use Rattle.records.specs.Laws.{number-none, number-more, number-small, number-fits, number-room}
-use Rattle.records.proofs.bytes.number_at.Statement.{statement}
-use Rattle.records.proofs.bytes.number_at.Tie as tie
+use Rattle.list_bytes.specs.Bytes.{numberAt}
+use Rattle.list_bytes.specs.Laws.{number-none, number-more, number-small, number-fits, number-room}
+use Rattle.list_bytes.proofs.number_at.Statement.{statement}
+use Rattle.list_bytes.proofs.number_at.Tie as tie
 
 abbrev Inv-loop : tie.InvT-loop
 Inv-loop list at width n₀ i₀ n i = (i ≤ width) × (n ≡ numberAt list at i) × (n < 256 ^ i)

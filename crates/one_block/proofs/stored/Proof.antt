@@ -1,4 +1,4 @@
--- `quick::stored`: what was stored and summed is the machine's run.
+-- `one_block::stored`: what was stored and summed is the machine's run.
 use mathlib.Core.Path.{refl}
 use native.Mathlib.Nat.{mul-comm}
 use native.Mathlib.Omega.{arith}
@@ -9,9 +9,9 @@ use Rattle.tables.specs.Tables.{indexOf}
 use Rattle.stream.specs.Bridge.{room-inside}
 use Rattle.stream.specs.Runs.{index-lt}
 use Rattle.states.proofs.Laws.{so}
 use Rattle.one_block.proofs.Laws.{data-run}
-use Rattle.quick.proofs.stored.Statement.{statement}
-use Rattle.quick.proofs.stored.Tie as tie
+use Rattle.one_block.proofs.stored.Statement.{statement}
+use Rattle.one_block.proofs.stored.Tie as tie
 
 returns : tie.Need-returns
 returns c =

@@ -1,12 +1,12 @@
--- `records::bytes::differs`: what is left of the question after i bytes is the whole question.
+-- `list_bytes::differs`: what is left of the question after i bytes is the whole question.
 use mathlib.Core.Path.{_≡_}
 use Prim.Native.Nat.{ℕ, _-_, _≤_}
 use lib.ListN.{length, drop}
 use borrow.Author.Needs.{needs}
-use Rattle.records.specs.Bytes.{differ}
-use Rattle.records.specs.Laws.{differFrom, differ-start, differ-short, differ-all, differ-here, differ-more}
-use Rattle.records.proofs.bytes.differs.Statement.{statement}
-use Rattle.records.proofs.bytes.differs.Tie as tie
+use Rattle.list_bytes.specs.Bytes.{differ}
+use Rattle.list_bytes.specs.Laws.{differFrom, differ-start, differ-short, differ-all, differ-here, differ-more}
+use Rattle.list_bytes.proofs.differs.Statement.{statement}
+use Rattle.list_bytes.proofs.differs.Tie as tie
 
 abbrev Inv-loop : tie.InvT-loop
 Inv-loop list at wanted i₀ i = (i ≤ length wanted) × (differFrom list at wanted i ≡ differ (drop at list) wanted)

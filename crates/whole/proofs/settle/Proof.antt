@@ -1,10 +1,10 @@
--- `states::settle`: by the phase.
+-- `whole::settle`: by the phase.
 use mathlib.Core.Path.{refl}
 use borrow.Author.Needs.{needs}
 use denote.Ref.{now}
-use Rattle.states.proofs.Laws.{settles}
-use Rattle.states.proofs.settle.Statement.{statement}
-use Rattle.states.proofs.settle.Tie as tie
+use Rattle.whole.proofs.Laws.{settles}
+use Rattle.whole.proofs.settle.Statement.{statement}
+use Rattle.whole.proofs.settle.Tie as tie
 
 pub settle-spec : {M : Type 1} → statement M
 settle-spec =

@@ -1,8 +1,8 @@
--- `states::cut_short`: the image zero and 10.
+-- `whole::cut_short`: the image zero and 10.
 use mathlib.Core.Path.{refl}
 use borrow.Author.Needs.{needs}
-use Rattle.states.proofs.cut_short.Statement.{statement}
-use Rattle.states.proofs.cut_short.Tie as tie
+use Rattle.whole.proofs.cut_short.Statement.{statement}
+use Rattle.whole.proofs.cut_short.Tie as tie
 
 pub cut-short-spec : {M : Type 1} → statement M
 cut-short-spec =
