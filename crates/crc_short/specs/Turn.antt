@@ -1,9 +1,11 @@
 -- What a word leaves by the tables of two words: a number whose low half is what the word leaves, and whose high half the same two words later.
 -- So the tables of two words serve the four words of a turn (crc's Four).
 use mathlib.Core.Path.{_≡_, sym, ap, ap₂, _∙_}
-use Prim.Native.Nat.{ℕ, _+_, _/_, _%_, _^_, _<_}
+use mathlib.Core.List.{[], _∷_}
+use Prim.Native.Nat.{ℕ, zero, suc, _+_, _/_, _%_, _^_, _≤_, _<_}
 use native.Mathlib.Omega.{arith}
 use lib.Bits.{bitXor, xor-comm, xor-lt}
+use lib.ListN.{getD}
 use lib.Pow.{high, low}
 use Rattle.crc.specs.Crc.{bitsOut}
 use Rattle.crc.specs.Xor.{xor-assoc}
@@ -51,3 +53,21 @@ pub shared-rest : (w x y a b c : ℕ) → a ≡ bitsOut 64 x → b ≡ bitsOut 3
 unfolding rest
 shared-rest w x y a b c p q r =
     xor-comm (bitXor a b) c ∙ sym (xor-assoc c a b) ∙ ap₂ bitXor (ap₂ bitXor r p) q
+
+-- ---- the five words that a turn looks up
+
+-- how many bits the k-th of them has to leave: of the first two a number for words that none follows is kept, of the others for words that one follows
+unfoldable pub reach : ℕ → ℕ
+reach k = getD (32 ∷ 32 ∷ []) k 64
+
+pub at-near : (k w u : ℕ) → k < 2 → u ≡ twice (bitsOut 32 w) → u ≡ twice (bitsOut (reach k) w)
+unfolding reach
+at-near zero w u h p = p
+at-near (suc zero) w u h p = p
+at-near (suc (suc k)) w u h p = absurd (omega arith)
+
+pub at-far : (k w u : ℕ) → 2 ≤ k → u ≡ twice (bitsOut 64 w) → u ≡ twice (bitsOut (reach k) w)
+unfolding reach
+at-far zero w u h p = absurd (omega arith)
+at-far (suc zero) w u h p = absurd (omega arith)
+at-far (suc (suc k)) w u h p = p

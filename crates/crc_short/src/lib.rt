@@ -3,85 +3,85 @@
 // The tables are those of two words. An entry holds in its low half what a byte leaves and in its high half the same two words later, so that
 // each table serves two words of a turn. A turn takes twenty lookups: eight for its second and last word and four for its third, which the
 // registers share, and four for its first word with each register.
-// The tables are matches, and a table is one load only where it has one caller in the whole program: hence the little loops.
+// The tables are matches, and a table is one load only where it has one caller in the whole program: hence the little loop.
 ghost use mathlib.Core.Path.{_≡_};
 ghost use mathlib.Core.List.{[], _∷_};
 ghost use Prim.Native.Nat.{_/_, _%_, _^_};
 ghost use Rattle.crc.specs.Crc.{bitsOut, wordsIn};
 ghost use Rattle.crc_short_bytes.specs.Twice.{twice};
+ghost use Rattle.crc_short.specs.Turn.{reach};
 use crc::Both;
+use crc_short_bytes::Leaves;
 use crc_short_bytes::byte0;
 use crc_short_bytes::byte1;
 use crc_short_bytes::byte2;
 use crc_short_bytes::byte3;
-use crc_short_bytes::byte4;
-use crc_short_bytes::byte5;
-use crc_short_bytes::byte6;
-use crc_short_bytes::byte7;
 
-// What two words leave by the tables.
-struct Two {
-    pub a: u64,
-    pub b: u64,
-}
-
-// What three words leave by the tables.
-struct Three {
+// What five words leave by the tables.
+struct Left {
     pub a: u64,
     pub b: u64,
     pub c: u64,
+    pub d: u64,
+    pub e: u64,
 }
 
-// What a word leaves when another word follows it, and the same two words later.
-fn first(w: u32) -> u64
-    ensures { λ r. ⌜ r ≡ twice (bitsOut 64 w) ⌝ }
+// What a word leaves.
+fn leaves(w: u32) -> Leaves
+    ensures { λ r. ⌜ (r .near ≡ twice (bitsOut 32 w)) × (r .far ≡ twice (bitsOut 64 w)) ⌝ }
 {
-    byte0(w) ^ byte1(w >> 8) ^ byte2(w >> 16) ^ byte3(w >> 24)
-}
-
-// What a word leaves when none follows it, and the same two words later.
-fn second(w: u32) -> u64
-    ensures { λ r. ⌜ r ≡ twice (bitsOut 32 w) ⌝ }
-{
-    byte4(w) ^ byte5(w >> 8) ^ byte6(w >> 16) ^ byte7(w >> 24)
-}
-
-// What each of two words leaves by `second`.
-fn seconds(a: u32, b: u32) -> Two
-    ensures { λ r. ⌜ (r .a ≡ twice (bitsOut 32 a)) × (r .b ≡ twice (bitsOut 32 b)) ⌝ }
-{
-    let mut a = a;
-    let mut f: u64 = 0;
-    let mut g: u64 = 0;
-    let mut k: u32 = 0;
-    while k < 2 {
-        f = g;
-        g = second(a);
-        a = b;
-        k += 1;
+    let a = byte0(w);
+    let b = byte1(w >> 8);
+    let c = byte2(w >> 16);
+    let d = byte3(w >> 24);
+    Leaves {
+        near: a.near ^ b.near ^ c.near ^ d.near,
+        far: a.far ^ b.far ^ c.far ^ d.far,
     }
-    Two { a: f, b: g }
 }
 
-// What each of three words leaves by `first`.
-fn firsts(a: u32, b: u32, c: u32) -> Three
-    ensures { λ r. ⌜ (r .a ≡ twice (bitsOut 64 a)) × (r .b ≡ twice (bitsOut 64 b)) × (r .c ≡ twice (bitsOut 64 c)) ⌝ }
+// What a word leaves as the k-th of the five that are looked up: the first two as words that none follows, the others as words that one follows.
+fn kept(w: u32, k: u32) -> u64
+    ensures { λ r. ⌜ r ≡ twice (bitsOut (reach k) w) ⌝ }
+{
+    let l = leaves(w);
+    if k < 2 { l.near } else { l.far }
+}
+
+// What five words leave, each at its place.
+fn five(a: u32, b: u32, c: u32, d: u32, e: u32) -> Left
+    ensures { λ r. ⌜ (r .a ≡ twice (bitsOut 32 a)) × (r .b ≡ twice (bitsOut 32 b))
+        × (r .c ≡ twice (bitsOut 64 c)) × (r .d ≡ twice (bitsOut 64 d)) × (r .e ≡ twice (bitsOut 64 e)) ⌝ }
 {
     let mut a = a;
     let mut b = b;
+    let mut c = c;
+    let mut d = d;
     let mut f: u64 = 0;
     let mut g: u64 = 0;
     let mut h: u64 = 0;
+    let mut i: u64 = 0;
+    let mut j: u64 = 0;
     let mut k: u32 = 0;
-    while k < 3 {
+    while k < 5 {
         f = g;
         g = h;
-        h = first(a);
+        h = i;
+        i = j;
+        j = kept(a, k);
         a = b;
         b = c;
+        c = d;
+        d = e;
         k += 1;
     }
-    Three { a: f, b: g, c: h }
+    Left {
+        a: f,
+        b: g,
+        c: h,
+        d: i,
+        e: j,
+    }
 }
 
 // The half of a number that is what a word leaves.
@@ -102,12 +102,11 @@ fn ahead(u: u64) -> u32
 fn turn(both: Both, v: u32, w: u32, x: u32, y: u32) -> Both
     ensures { λ r. ⌜ (r .block ≡ wordsIn (both .block) (v ∷ w ∷ x ∷ y ∷ [])) × (r .stream ≡ wordsIn (both .stream) (v ∷ w ∷ x ∷ y ∷ [])) ⌝ }
 {
-    let s = seconds(w, y);
-    let f = firsts(x, both.block ^ v, both.stream ^ v);
-    let shared = low(f.a) ^ low(s.b) ^ ahead(s.a);
+    let f = five(w, y, x, both.block ^ v, both.stream ^ v);
+    let shared = low(f.c) ^ low(f.b) ^ ahead(f.a);
     Both {
-        block: ahead(f.b) ^ shared,
-        stream: ahead(f.c) ^ shared,
+        block: ahead(f.d) ^ shared,
+        stream: ahead(f.e) ^ shared,
     }
 }
 
