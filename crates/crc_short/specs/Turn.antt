@@ -56,18 +56,20 @@ shared-rest w x y a b c p q r =
 
 -- ---- the five words that a turn looks up
 
--- how many bits the k-th of them has to leave: of the first two a number for words that none follows is kept, of the others for words that one follows
+-- how many bits leave with the k-th of them: one word follows the first three, and none the last two
 unfoldable pub reach : ℕ → ℕ
-reach k = getD (32 ∷ 32 ∷ []) k 64
+reach k = getD (64 ∷ 64 ∷ 64 ∷ []) k 32
 
-pub at-near : (k w u : ℕ) → k < 2 → u ≡ twice (bitsOut 32 w) → u ≡ twice (bitsOut (reach k) w)
+pub at-far : (k w u : ℕ) → k < 3 → u ≡ twice (bitsOut 64 w) → u ≡ twice (bitsOut (reach k) w)
 unfolding reach
-at-near zero w u h p = p
-at-near (suc zero) w u h p = p
-at-near (suc (suc k)) w u h p = absurd (omega arith)
+at-far zero w u h p = p
+at-far (suc zero) w u h p = p
+at-far (suc (suc zero)) w u h p = p
+at-far (suc (suc (suc k))) w u h p = absurd (omega arith)
 
-pub at-far : (k w u : ℕ) → 2 ≤ k → u ≡ twice (bitsOut 64 w) → u ≡ twice (bitsOut (reach k) w)
+pub at-near : (k w u : ℕ) → 3 ≤ k → u ≡ twice (bitsOut 32 w) → u ≡ twice (bitsOut (reach k) w)
 unfolding reach
-at-far zero w u h p = absurd (omega arith)
-at-far (suc zero) w u h p = absurd (omega arith)
-at-far (suc (suc k)) w u h p = p
+at-near zero w u h p = absurd (omega arith)
+at-near (suc zero) w u h p = absurd (omega arith)
+at-near (suc (suc zero)) w u h p = absurd (omega arith)
+at-near (suc (suc (suc k))) w u h p = p

@@ -1,9 +1,10 @@
 // CRC-32 over short runs of words, four words a turn, by tables that stand with the code (crc_short_bytes): nothing is made first, and nothing
 // is lent.
-// The tables are those of two words. An entry holds in its low half what a byte leaves and in its high half the same two words later, so that
-// each table serves two words of a turn. A turn takes twenty lookups: eight for its second and last word and four for its third, which the
+// The tables are those of two words. A number of an entry holds in its low half what a byte leaves and in its high half the same two words later, so
+// that it serves two words of a turn. A turn takes twenty lookups: eight for its second and last word and four for its third, which the
 // registers share, and four for its first word with each register.
-// The tables are matches, and a table is one load only where it has one caller in the whole program: hence the little loop.
+// The tables are matches, and a table is one load only where it has one caller in the whole program: hence the little loop. The compiler unrolls it
+// and loads of each entry the one number that is kept. The order of the five words costs least: in others two addresses more are made in each turn.
 ghost use mathlib.Core.Path.{_≡_};
 ghost use mathlib.Core.List.{[], _∷_};
 ghost use Prim.Native.Nat.{_/_, _%_, _^_};
@@ -40,18 +41,18 @@ fn leaves(w: u32) -> Leaves
     }
 }
 
-// What a word leaves as the k-th of the five that are looked up: the first two as words that none follows, the others as words that one follows.
+// What is kept of the k-th of five words: of the first three what a word leaves that one follows, of the last two what one leaves that none follows.
 fn kept(w: u32, k: u32) -> u64
     ensures { λ r. ⌜ r ≡ twice (bitsOut (reach k) w) ⌝ }
 {
     let l = leaves(w);
-    if k < 2 { l.near } else { l.far }
+    if k < 3 { l.far } else { l.near }
 }
 
 // What five words leave, each at its place.
 fn five(a: u32, b: u32, c: u32, d: u32, e: u32) -> Left
-    ensures { λ r. ⌜ (r .a ≡ twice (bitsOut 32 a)) × (r .b ≡ twice (bitsOut 32 b))
-        × (r .c ≡ twice (bitsOut 64 c)) × (r .d ≡ twice (bitsOut 64 d)) × (r .e ≡ twice (bitsOut 64 e)) ⌝ }
+    ensures { λ r. ⌜ (r .a ≡ twice (bitsOut 64 a)) × (r .b ≡ twice (bitsOut 64 b))
+        × (r .c ≡ twice (bitsOut 64 c)) × (r .d ≡ twice (bitsOut 32 d)) × (r .e ≡ twice (bitsOut 32 e)) ⌝ }
 {
     let mut a = a;
     let mut b = b;
@@ -102,11 +103,11 @@ fn ahead(u: u64) -> u32
 fn turn(both: Both, v: u32, w: u32, x: u32, y: u32) -> Both
     ensures { λ r. ⌜ (r .block ≡ wordsIn (both .block) (v ∷ w ∷ x ∷ y ∷ [])) × (r .stream ≡ wordsIn (both .stream) (v ∷ w ∷ x ∷ y ∷ [])) ⌝ }
 {
-    let f = five(w, y, x, both.block ^ v, both.stream ^ v);
-    let shared = low(f.c) ^ low(f.b) ^ ahead(f.a);
+    let f = five(x, both.block ^ v, both.stream ^ v, w, y);
+    let shared = low(f.a) ^ low(f.e) ^ ahead(f.d);
     Both {
-        block: ahead(f.d) ^ shared,
-        stream: ahead(f.e) ^ shared,
+        block: ahead(f.b) ^ shared,
+        stream: ahead(f.c) ^ shared,
     }
 }
 

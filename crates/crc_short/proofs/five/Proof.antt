@@ -17,9 +17,9 @@ use Rattle.crc_short.proofs.five.Tie as tie
 abbrev stands : ℕ → ℕ → ℕ → ℕ → ℕ → ℕ → ℕ
 stands a b c d e k =
     getD
-    (0 ∷ 0 ∷ 0 ∷ 0 ∷ 0 ∷ twice (bitsOut 32 a) ∷ twice (bitsOut 32 b) ∷ twice (bitsOut 64 c) ∷ twice (bitsOut 64 d) ∷ [])
+    (0 ∷ 0 ∷ 0 ∷ 0 ∷ 0 ∷ twice (bitsOut 64 a) ∷ twice (bitsOut 64 b) ∷ twice (bitsOut 64 c) ∷ twice (bitsOut 32 d) ∷ [])
     k
-    (twice (bitsOut 64 e))
+    (twice (bitsOut 32 e))
 
 abbrev Inv-loop : tie.InvT-loop
 Inv-loop a b c d e a₀ b₀ c₀ d₀ f₀ g₀ h₀ i₀ j₀ k₀ a' b' c' d' f g h i j k =

@@ -13,11 +13,11 @@ returns c =
     let f = l .before .five .ensures in
     let a = l .before .before .before .before in
     let shared = shared-rest _ _ _ _ _ _
-    (low-bits 64 _ _ _ (a .fits .x .fits) (f .2) (l .low .ensures))
-    (low-bits 32 _ _ _ (a .fits .y .fits) (f .1) (c .before .before .before .low2 .ensures))
-    (high-bits 32 _ _ _ (a .fits .w .fits) (f .0) (c .before .before .ahead .ensures)) in (
-      turned _ _ _ _ _ _ _ (a .fits .v .fits) (a .fits .w .fits) (a .fits .x .fits) (a .fits .y .fits) (high-bits 64 _ _ _ (search (needs, xor-lt)) (f .3) (c .before .ahead2 .ensures)) shared,
-      turned _ _ _ _ _ _ _ (a .fits .v .fits) (a .fits .w .fits) (a .fits .x .fits) (a .fits .y .fits) (high-bits 64 _ _ _ (search (needs, xor-lt)) (f .4) (c .ahead3 .ensures)) shared,
+    (low-bits 64 _ _ _ (a .fits .x .fits) (f .0) (l .low .ensures))
+    (low-bits 32 _ _ _ (a .fits .y .fits) (f .4) (c .before .before .before .low2 .ensures))
+    (high-bits 32 _ _ _ (a .fits .w .fits) (f .3) (c .before .before .ahead .ensures)) in (
+      turned _ _ _ _ _ _ _ (a .fits .v .fits) (a .fits .w .fits) (a .fits .x .fits) (a .fits .y .fits) (high-bits 64 _ _ _ (search (needs, xor-lt)) (f .1) (c .before .ahead2 .ensures)) shared,
+      turned _ _ _ _ _ _ _ (a .fits .v .fits) (a .fits .w .fits) (a .fits .x .fits) (a .fits .y .fits) (high-bits 64 _ _ _ (search (needs, xor-lt)) (f .2) (c .ahead3 .ensures)) shared,
     )
 
 pub turn-spec : {M : Type 1} → statement M
