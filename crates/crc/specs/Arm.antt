@@ -1,6 +1,6 @@
 -- An entry of a table that stands in the code as a match, for any linear f. By linearity an entry is the exclusive or of those at the
 -- powers of two that its number is made of, which computes in a fraction of the steps that the bits of the entry would take.
-use mathlib.Core.Path.{_≡_, sym, ap, ap₂, _∙_}
+use mathlib.Core.Path.{_≡_, refl, sym, ap, ap₂, _∙_}
 use mathlib.Core.List.{List, [], _∷_}
 use Prim.Native.Nat.{ℕ, zero, suc, _+_, _*_, _/_, _%_, _^_, _≤_, _<_}
 use native.Mathlib.Nat.{mod-lt, mod-eq-of-lt, mod-one, zero-mul, mul-one, one-mul, mul-comm, mul-assoc, add-mul, lt-of-lt-of-le, pow-suc}
@@ -11,7 +11,7 @@ use lib.Bits.{bitXor, xor-comm, xor-shifted}
 use lib.Dec.{T, eqb, eqb→eq}
 use lib.Pow.{pow-pos, pow-mono, shl-lt}
 use Rattle.crc.specs.Crc.{bitsOut}
-use Rattle.crc.specs.Laws.{bitsOut-linear, bitsOut-shifted}
+use Rattle.crc.specs.Laws.{bitsOut-lt, bitsOut-linear, bitsOut-shifted}
 
 -- the exclusive or of those numbers whose bit is set in k
 abbrev pub pick : List ℕ → ℕ → ℕ
@@ -65,5 +65,16 @@ module _ {f : ℕ → ℕ} (linear : Linear f) where
 pub bitsOut-none : (n : ℕ) → bitsOut n 0 ≡ 0
 bitsOut-none n = ap (bitsOut n) (sym (zero-mul (2 ^ n))) ∙ bitsOut-shifted n 0
 
+-- what a register is kept as: g of what leaves it. It is linear where g is
+pub after-bits : {g : ℕ → ℕ} → Linear g → (n : ℕ) → Linear (λ (b : ℕ). g (bitsOut n b))
+after-bits {g} linear n =
+    record {
+      none = ap g (bitsOut-none n) ∙ linear .none;
+      xor = λ a b ha hb. linear .xor (bitsOut n a) (bitsOut n b) (bitsOut-lt n a ha) (bitsOut-lt n b hb) ∙ ap g (sym (bitsOut-linear n a b));
+    }
+
+pub itself : Linear (λ (x : ℕ). x)
+itself = record { none = refl; xor = λ a b ha hb. refl }
+
 pub bits-linear : (n : ℕ) → Linear (bitsOut n)
-bits-linear n = record { none = bitsOut-none n; xor = λ a b ha hb. sym (bitsOut-linear n a b) }
+bits-linear = after-bits itself

@@ -5,3 +5,4 @@ pub mod Xor
 pub mod Laws
 pub mod Four
 pub mod Arm
+pub mod Bytes

@@ -3,8 +3,9 @@
 // The tables are those of two words. A number of an entry holds in its low half what a byte leaves and in its high half the same two words later, so
 // that it serves two words of a turn. A turn takes twenty lookups: eight for its second and last word and four for its third, which the
 // registers share, and four for its first word with each register.
-// The tables are matches, and a table is one load only where it has one caller in the whole program: hence the little loop. The compiler unrolls it
-// and loads of each entry the one number that is kept. The order of the five words costs least: in others two addresses more are made in each turn.
+// The tables are one match, and a lookup is one load only where it has one caller in the whole program: hence the two little loops, over five
+// words and over a word's bytes. The compiler unrolls them and loads of each entry the one number that is kept. The order of the five words costs
+// least: in others two addresses more are made in each turn. The number is chosen in the loop itself: by a function of its own it is not unrolled.
 ghost use mathlib.Core.Path.{_≡_};
 ghost use mathlib.Core.List.{[], _∷_};
 ghost use Prim.Native.Nat.{_/_, _%_, _^_};
@@ -12,11 +13,7 @@ ghost use Rattle.crc.specs.Crc.{bitsOut, wordsIn};
 ghost use Rattle.crc_short_bytes.specs.Twice.{twice};
 ghost use Rattle.crc_short.specs.Turn.{reach};
 use crc::Both;
-use crc_short_bytes::Leaves;
-use crc_short_bytes::byte0;
-use crc_short_bytes::byte1;
-use crc_short_bytes::byte2;
-use crc_short_bytes::byte3;
+use crc_short_bytes::byte;
 
 // What five words leave by the tables.
 struct Left {
@@ -27,26 +24,41 @@ struct Left {
     pub e: u64,
 }
 
-// What a word leaves.
-fn leaves(w: u32) -> Leaves
-    ensures { λ r. ⌜ (r .near ≡ twice (bitsOut 32 w)) × (r .far ≡ twice (bitsOut 64 w)) ⌝ }
-{
-    let a = byte0(w);
-    let b = byte1(w >> 8);
-    let c = byte2(w >> 16);
-    let d = byte3(w >> 24);
-    Leaves {
-        near: a.near ^ b.near ^ c.near ^ d.near,
-        far: a.far ^ b.far ^ c.far ^ d.far,
-    }
-}
-
 // What is kept of the k-th of five words: of the first three what a word leaves that one follows, of the last two what one leaves that none follows.
 fn kept(w: u32, k: u32) -> u64
     ensures { λ r. ⌜ r ≡ twice (bitsOut (reach k) w) ⌝ }
 {
-    let l = leaves(w);
-    if k < 3 { l.far } else { l.near }
+    let mut rest = w;
+    let mut left: u64 = 0;
+    let mut j: u32 = 0;
+    while j < 4 {
+        let b = byte(rest);
+        let u = if k < 3 {
+            if j < 1 {
+                b.eight
+            } else if j < 2 {
+                b.seven
+            } else if j < 3 {
+                b.six
+            } else {
+                b.five
+            }
+        } else {
+            if j < 1 {
+                b.four
+            } else if j < 2 {
+                b.three
+            } else if j < 3 {
+                b.two
+            } else {
+                b.one
+            }
+        };
+        left = left ^ u;
+        rest = rest >> 8;
+        j += 1;
+    }
+    left
 }
 
 // What five words leave, each at its place.

@@ -3,7 +3,7 @@ use mathlib.Core.Path.{_≡_, ap, _∙_, sym}
 use Prim.Native.Nat.{ℕ, _+_, _*_, _^_, _<_}
 use lib.Bits.{bitXor, xor-block}
 use Rattle.crc.specs.Crc.{bitsOut}
-use Rattle.crc.specs.Laws.{bitsOut-lt, bitsOut-linear}
+use Rattle.crc.specs.Laws.{bitsOut-linear}
 
 unfoldable pub twice : ℕ → ℕ
 twice z = bitsOut 64 z * 2 ^ 32 + z
@@ -17,9 +17,3 @@ twice-linear a b ha hb =
 pub twice-of : (h z x : ℕ) → h ≡ bitsOut 64 z → z ≡ x → h * 2 ^ 32 + z ≡ twice x
 unfolding twice
 twice-of h z x p q = rw (p, q)
-
--- an entry is linear in its byte
-pub entry-linear : (n a b : ℕ) → a < 2 ^ 32 → b < 2 ^ 32
-    → bitXor (twice (bitsOut n a)) (twice (bitsOut n b)) ≡ twice (bitsOut n (bitXor a b))
-entry-linear n a b ha hb =
-    twice-linear (bitsOut n a) (bitsOut n b) (bitsOut-lt n a ha) (bitsOut-lt n b hb) ∙ ap twice (sym (bitsOut-linear n a b))

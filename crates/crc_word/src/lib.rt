@@ -1,20 +1,35 @@
-// CRC-32 of one word, into both registers, by tables that stand with the code (crc_word_bytes, crc_word_last): nothing is made first, and
-// nothing is lent.
-// A word's four lookups do not wait for each other, as those of the plain loop do. The two registers take turns in a loop,
-// since a table is one load only where it has one caller. It is for writes of one word; longer runs have their own crates.
+// CRC-32 of one word, into both registers, by tables that stand with the code (crc_word_bytes): nothing is made first, and nothing is lent.
+// A word's four lookups do not wait for each other, as those of the plain loop do. A word's bytes and the two registers take turns in loops,
+// since a lookup is one load only where the tables have one caller; the compiler unrolls both. It is for writes of one word; longer runs have
+// their own crates.
 ghost use mathlib.Core.Path.{_≡_};
 ghost use Rattle.crc.specs.Crc.{bitsOut, wordIn};
 use crc::Both;
-use crc_word_bytes::byte0;
-use crc_word_bytes::byte1;
-use crc_word_bytes::byte2;
-use crc_word_last::byte3;
+use crc_word_bytes::byte;
 
-// What a word leaves.
+// What a word leaves: its bytes from the lowest on, fewer of them still to leave with each.
 fn leaves(w: u32) -> u32
     ensures { λ r. ⌜ r ≡ bitsOut 32 w ⌝ }
 {
-    byte0(w) ^ byte1(w >> 8) ^ byte2(w >> 16) ^ byte3(w >> 24)
+    let mut rest = w;
+    let mut left: u32 = 0;
+    let mut j: u32 = 0;
+    while j < 4 {
+        let b = byte(rest);
+        let u = if j < 1 {
+            b.four
+        } else if j < 2 {
+            b.three
+        } else if j < 3 {
+            b.two
+        } else {
+            b.one
+        };
+        left = left ^ u;
+        rest = rest >> 8;
+        j += 1;
+    }
+    left
 }
 
 // A word goes into both.
