@@ -64,14 +64,22 @@ pub fn byte(b: u32) -> Leaves
 PROOF = """-- `{crate}::byte` meets its contract: each number of an arm is made of those at the powers of two.
 use mathlib.Core.Path.{{_≡_, refl}}
 use mathlib.Core.List.{{List, [], _∷_}}
-use Prim.Native.Nat.{{ℕ}}
+use Prim.Native.Nat.{{ℕ, _+_, _<_}}
 use borrow.Author.Needs.{{needs}}
-use lib.Dec.{{lit<}}
+use lib.Dec.{{T, eqb, lit<}}
 use Rattle.crc.specs.Crc.{{bit, bitsOut}}
 {uses}
 use Rattle.{crate}.proofs.byte.Statement.{{statement}}
 use Rattle.{crate}.proofs.byte.Tie as tie
 {powers}
+-- the numbers of the arm at 256 + k, for the byte k
+numbers : (k b {values} : ℕ) → k < 256 → b + 256 ≡ k + 256
+    → {tests}
+    → {holds}
+numbers k b {values} h e {names} = (
+{proofs}
+)
+
 pub byte-spec : {{M : Type 1}} → statement M
 byte-spec =
     tie.close
@@ -120,11 +128,15 @@ def table(crate, head, entry, digits, counts, means, plain, uses, basis, unfoldi
         crate=crate, uses=uses, plains="    (λ c κs. search needs)\n" * len(counts),
         powers="".join(POWERS.format(count=c, powers=" ∷ ".join("0x%X" % entry(bits[c], 1 << p) for p in range(8)), basis=basis % bits[c], unfolding=unfolding)
             for c in counts),
-        answers="\n".join("    (λ c. (\n%s\n    ))" % "\n".join("      %s %s %d _ _ %s-are (lit< tt) tt (c .match .keys%d)," % (arm % bits[c], c, b, c, b + 1)
-            for c in counts) for b in range(256))))
+        values=" ".join("v%d" % bits[c] for c in counts), names=" ".join("t%d" % bits[c] for c in counts),
+        tests="\n    → ".join("T (eqb v%d (pick %s k))" % (bits[c], c) for c in counts),
+        holds="\n    × ".join("(v%d ≡ %s)" % (bits[c], means % bits[c]) for c in counts).replace("(b % 256)", "b"),
+        proofs="\n".join("    %s %s k v%d b %s-are h t%d e," % (arm % bits[c], c, bits[c], c, bits[c]) for c in counts),
+        answers="\n".join("    (λ c. numbers %d _ %s (lit< tt) (c .match .keys%d) %s)" % (b, " ".join("_" for c in counts), b + 1, " ".join("tt" for c in counts))
+            for b in range(256))))
 
 
 table("crc_short_bytes", SHORT, twice, 16, COUNTS, "twice (bitsOut %d (b %% 256))", "plain",
-    "use Rattle.crc_short_bytes.specs.Twice.{twice}\nuse Rattle.crc_short_bytes.specs.Arm.{basis, arm}", "basis %d 0 8", " twice basis", "arm %d")
+    "use Rattle.crc_short_bytes.specs.Twice.{twice}\nuse Rattle.crc_short_bytes.specs.Arm.{basis, arm}\nuse Rattle.crc.specs.Arm.{pick}", "basis %d 0 8", " twice basis", "arm %d")
 table("crc_word_bytes", WORD, after, 8, COUNTS[:4], "bitsOut %d (b %% 256)", "bits_out",
-    "use Rattle.crc.specs.Arm.{basis, bits-linear, arm}", "basis (bitsOut %d) 0 8", "", "arm (bits-linear %d)")
+    "use Rattle.crc.specs.Arm.{pick, basis, bits-linear, arm}", "basis (bitsOut %d) 0 8", "", "arm (bits-linear %d)")

@@ -4,7 +4,7 @@ use mathlib.Core.Bool.{Bool, true, false, cond, not}
 use mathlib.Core.List.{List}
 use Prim.Native.Nat.{ℕ}
 use Rattle.image.specs.Fields.{vmembPort}
-use Rattle.lookup.specs.Address.{holds, barred}
+use Rattle.addresses.specs.Address.{holds, barred}
 use Rattle.enter.specs.Steps.{outsider, keptOut}
 
 pub untagged-is-in : (image : List ℕ) (port place : ℕ) → outsider image port false place ≡ false

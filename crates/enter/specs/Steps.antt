@@ -6,7 +6,7 @@ use lib.Dec.{eqb}
 use Rattle.layout.specs.Layout.{countOf}
 use Rattle.image.specs.Fields.{vmembPort}
 use Rattle.lookup.specs.Vlan.{vlanAt}
-use Rattle.lookup.specs.Address.{holds, barred}
+use Rattle.addresses.specs.Address.{holds, barred}
 use Rattle.enter.specs.declared.Placed.{Placed}
 use Rattle.enter.specs.declared.Placed.the-variants.{Absent, At}
 

@@ -6,7 +6,7 @@ ghost use lib.ListN.{length};
 ghost use Rattle.layout.specs.Layout.{imageIn, countOf};
 ghost use Rattle.image.specs.Fields.{vmembPort};
 ghost use Rattle.image.specs.Sound.{Sound};
-ghost use Rattle.lookup.specs.Address.{holds};
+ghost use Rattle.addresses.specs.Address.{holds};
 ghost use Rattle.frame.specs.Laws.{Whole};
 ghost use Rattle.enter.specs.Steps.{placedOf, outsider, keptOut};
 ghost use Rattle.enter.specs.Enter.{byPlace, byIntake, enterOf};
@@ -46,7 +46,7 @@ fn member(image: &[u32], port: usize, place: usize) -> bool
     requires { ⌜ (port < 5) × (place < countOf (imageIn (now image)) 2) ⌝ }
     ensures { λ r. ⌜ r ≡ holds (vmembPort (imageIn (now (image .entry))) place) port ⌝ }
 {
-    lookup::address::holds(image::vlan::vmemb_port(image, place), port)
+    addresses::holds(image::vlan::vmemb_port(image, place), port)
 }
 
 // Step 5: membership is asked of tagged frames only.
@@ -70,7 +70,7 @@ fn kept_out(image: &[u32], port: usize, vlan: u64, tagged: bool, source: u64, pl
     if outsider(image, port, tagged, place) {
         return 5;
     }
-    if lookup::address::barred(image, port, vlan, source) {
+    if addresses::barred(image, port, vlan, source) {
         return 6;
     }
     0

@@ -6,41 +6,17 @@ use libc::STDOUT_FILENO;
 use states::Wrote;
 use stream::Answer;
 use stream::Load;
+use stream::bytes::word_at;
 
 // What the buffer holds before a load, in each word.
 const FOUND: u32 = 0xA5A5_A5A5;
 
-fn wide(byte: u8) -> u32
-    ensures { λ r. ⌜ r < 256 ⌝ }
-{
-    byte as u32
-}
-
-// The word at byte `at`, high byte first; 0 past the end.
-fn word(bytes: &[u8], at: usize) -> u32 {
-    if bytes.len() < 4 {
-        return 0;
-    }
-    if bytes.len() - 4 < at {
-        return 0;
-    }
-    wide(bytes[at]) * 16777216
-        + wide(bytes[at + 1]) * 65536
-        + wide(bytes[at + 2]) * 256
-        + wide(bytes[at + 3])
-}
-
-fn print_number(n: u64) {
-    io::print_decimal(STDOUT_FILENO, n);
-}
-
-fn print_answer(answer: Answer) {
+// False where it could not be written, which the comparison of the output shows.
+fn print_answer(answer: Answer) -> bool {
     match answer {
-        Answer::More => {
-            io::write_all(STDOUT_FILENO, b"more");
-        }
-        Answer::Loaded => print_number(0),
-        Answer::Refused(n) => print_number(n as u64),
+        Answer::More => io::write_all(STDOUT_FILENO, b"more"),
+        Answer::Loaded => io::print_decimal(STDOUT_FILENO, 0),
+        Answer::Refused(n) => io::print_decimal(STDOUT_FILENO, n as u64),
     }
 }
 
@@ -122,7 +98,7 @@ fn as_words(bytes: &[u8]) {
     }
     let mut i = 0;
     while i < n {
-        words[i] = word(bytes, 4 * i);
+        words[i] = word_at(bytes, 4 * i);
         i += 1;
     }
     in_words(&words[..n]);
@@ -155,7 +131,7 @@ fn next() -> bool {
         return false;
     }
     let mut buffer = io::large_buffer();
-    let n = fill(&mut buffer, word(&size, 0) as usize);
+    let n = fill(&mut buffer, word_at(&size, 0) as usize);
     if 65536 < n {
         return false;
     }

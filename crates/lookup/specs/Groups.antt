@@ -1,6 +1,6 @@
 -- Laws of a search that looks at a group of entries at once: what is found in the group is found in the scan.
 use mathlib.Core.Path.{_≡_, refl, sym, _∙_, ap, subst}
-use mathlib.Core.Bool.{Bool, true, false, cond, not, _||_, true≢false}
+use mathlib.Core.Bool.{Bool, true, false, not, _||_, true≢false}
 use Prim.Native.Nat.{ℕ, zero, suc, _+_, _-_, _/_, _^_, _<_, _≤_}
 use native.Mathlib.Nat.{add-zero, add-suc}
 use native.Mathlib.Numerals.{add-one}
@@ -8,7 +8,6 @@ use native.Mathlib.Omega.{arith}
 use lib.Bits.{bitAnd, and-shr}
 use lib.Dec.{eqb}
 use Rattle.laws.specs.Scan.{some-below, some-more, first, first-more, flag}
-use Rattle.lookup.specs.Least.{Leads, leads-keep}
 
 -- entries of a group, counted from its first
 abbrev pub from : ℕ → (ℕ → Bool) → ℕ → Bool
@@ -45,11 +44,11 @@ clear-end p n k all e c =
     back false = refl
 
 -- ---- none of a group
-or-left : (a b : Bool) → a || b ≡ false → a ≡ false
+pub or-left : (a b : Bool) → a || b ≡ false → a ≡ false
 or-left true b e = e
 or-left false b e = refl
 
-or-right : (a b : Bool) → a || b ≡ false → b ≡ false
+pub or-right : (a b : Bool) → a || b ≡ false → b ≡ false
 or-right true b e = absurd (true≢false e)
 or-right false b e = e
 
@@ -131,23 +130,3 @@ first-past zero n p e h = subst (λ (k : ℕ). first k p ≡ k) (sym (add-zero n
 first-past (suc m) n p e h =
     subst (λ (k : ℕ). first k p ≡ k) (add-one (n + m) ∙ sym (add-suc n m))
     (first-more (n + m) p (first-past m n p e (or-left (some-below m (from n p)) (p (n + m)) h)) (or-right (some-below m (from n p)) (p (n + m)) h))
-
--- the best so far stays past a group in which none passes
-pub leads-past : {n top : ℕ} {p : ℕ → Bool} {key : ℕ → ℕ} {b low : ℕ} (m i : ℕ) → ((j : ℕ) → key j < top) → Leads n top p key i b low → some-below m (from i p) ≡ false
-    → Leads n top p key (i + m) b low
-unfolding some-below
-leads-past {n} {top} {p} {key} {b} {low} zero i small l h = subst (λ (k : ℕ). Leads n top p key k b low) (sym (add-zero i)) l
-leads-past {n} {top} {p} {key} {b} {low} (suc m) i small l h =
-    subst (λ (k : ℕ). Leads n top p key k b low) (add-one (i + m) ∙ sym (add-suc i m))
-    (leads-keep (leads-past m i small l (or-left (some-below m (from i p)) (p (i + m)) h)) (small (i + m))
-    (ap (λ (t : Bool). cond t (lib.Dec.ltb (key (i + m)) low) false) (or-right (some-below m (from i p)) (p (i + m)) h)))
-
--- the same up to r
-pub leads-up-to : {n top : ℕ} {p : ℕ → Bool} {key : ℕ → ℕ} {b low : ℕ} (i r : ℕ) → i ≤ r → ((j : ℕ) → key j < top) → Leads n top p key i b low
-    → some-below (r - i) (from i p) ≡ false
-    → Leads n top p key r b low
-leads-up-to {n} {top} {p} {key} {b} {low} i r l small h g =
-    subst (λ (k : ℕ). Leads n top p key k b low) whole (leads-past (r - i) i small h g)
-  where
-    whole : i + (r - i) ≡ r
-    whole = omega arith

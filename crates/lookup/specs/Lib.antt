@@ -1,7 +1,4 @@
--- What is looked up in the tables of a loaded image.
+-- What is looked up in 07 of a loaded image, and the laws of a search by groups.
 pub mod Vlan
-pub mod Address
-pub mod Least
 pub mod Groups
-pub mod Leading
 pub mod Proved

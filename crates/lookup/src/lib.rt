@@ -1,6 +1,5 @@
-// Searches in the tables of an image. Each asks a group of entries at once, so that they go side by side, whether one may be what it looks for,
-// and only such a group's one after the other.
-pub mod address;
+// The search in 07, and what it shares with those in 05. Each asks a group of entries at once, so that they go side by side, whether one may be
+// what it looks for, and only such a group's one after the other.
 pub mod vlan;
 
 ghost use mathlib.Core.Path.{_≡_};

@@ -9,7 +9,7 @@ use lib.Bits.{bitAnd, and-shr, and-mod, and-zero-r}
 use lib.Dec.{eqb}
 use Rattle.layout.specs.Layout.{Held}
 use Rattle.image.specs.Sound.{Sound}
-use Rattle.lookup.specs.Address.{holds}
+use Rattle.addresses.specs.Address.{holds}
 use Rattle.ports.specs.declared.Sending.{Sending}
 use Rattle.ports.specs.Ports.{maskOf, others, cut}
 

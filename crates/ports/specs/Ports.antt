@@ -6,7 +6,7 @@ use lib.Bits.{bitAnd}
 use lib.Dec.{eqb}
 use Rattle.layout.specs.Layout.{countOf}
 use Rattle.image.specs.Fields.{destports, vmembPort, vlanBc, tagPort, bcDomain, reachPort, flDomain, vlanPmap, egress}
-use Rattle.lookup.specs.Address.{holds, destinationAt}
+use Rattle.addresses.specs.Address.{holds, destinationAt}
 use Rattle.frame.specs.Bytes.{broadcasts}
 use Rattle.ports.specs.declared.Sending.{Sending}
 

@@ -8,7 +8,7 @@ use borrow.Author.Tests.{eq-eqb, ne-eqb}
 use Rattle.layout.specs.Layout.{countOf}
 use Rattle.image.specs.Fields.{flDomain, destports, vlanPmap, bcDomain, vlanBc, reachPort, vmembPort}
 use lib.Bits.{bitAnd}
-use Rattle.lookup.specs.Address.{holds, destinationAt}
+use Rattle.addresses.specs.Address.{holds, destinationAt}
 use Rattle.frame.specs.Bytes.{broadcasts}
 use Rattle.ports.specs.Ports.{towards, wantedOf, egressPorts, portsOf, queueOf, sendingAt, sendingOf}
 use Rattle.ports.specs.Laws.{not-back}

@@ -43,7 +43,7 @@ fn wanted(image: &[u32], port: usize, vlan: u64, entry: usize, destination: u64)
     towards(
         image,
         port,
-        lookup::address::destination(image, vlan, destination),
+        addresses::destination(image, vlan, destination),
     )
 }
 
@@ -108,7 +108,7 @@ fn queue(image: &[u32], ports: u64, q: u64, e: usize) -> u64
     requires { ⌜ (q < 8) × (e < 5) ⌝ }
     ensures { λ r. ⌜ r ≡ queueOf (imageIn (now (image .entry))) ports q e ⌝ }
 {
-    if lookup::address::holds(ports, e) {
+    if addresses::holds(ports, e) {
         return image::forwarding::vlan_pmap(image, 5 + q as usize, e);
     }
     0

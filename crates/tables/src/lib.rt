@@ -109,13 +109,6 @@ pub fn shape_of(t: Table) -> Shape
     }
 }
 
-// Where a table's entries start in the image.
-pub fn base_of(t: Table) -> usize
-    ensures { λ r. ⌜ (r ≡ baseOf (indexOf t)) × (r < 11430) ⌝ }
-{
-    shape_of(t).base
-}
-
 // The words of an entry.
 pub fn size_of(t: Table) -> usize
     ensures { λ r. ⌜ (r ≡ sizeOf (indexOf t)) × (0 < r) × (r < 11) ⌝ }

@@ -2,7 +2,7 @@
 use borrow.Author.Needs.{needs}
 use mathlib.Core.Path.{_∙_, ap}
 use Prim.Native.Nat.{ℕ}
-use Rattle.lookup.specs.Address.{holds}
+use Rattle.addresses.specs.Address.{holds}
 use Rattle.enter.proofs.member.Statement.{statement}
 use Rattle.enter.proofs.member.Tie as tie
 

@@ -1,8 +1,8 @@
--- `lookup::address::bars`: ENFPORT, DESTPORTS, then the match.
+-- `addresses::bars`: ENFPORT, DESTPORTS, then the match.
 use borrow.Author.Needs.{needs}
 use Rattle.laws.specs.Chain.{chain, carried}
-use Rattle.lookup.proofs.address.bars.Statement.{statement}
-use Rattle.lookup.proofs.address.bars.Tie as tie
+use Rattle.addresses.proofs.bars.Statement.{statement}
+use Rattle.addresses.proofs.bars.Tie as tie
 
 pub bars-spec : {M : Type 1} → statement M
 bars-spec =

@@ -2,12 +2,14 @@
 use mathlib.Core.Path.{_≡_, refl, sym, _∙_, ap, subst}
 use mathlib.Core.Logic.{_⊎_, ⊎-elim}
 use mathlib.Core.Bool.{Bool, true, false, cond}
-use Prim.Native.Nat.{ℕ, zero, suc, _+_, _<_, _≤_}
-use native.Mathlib.Nat.{le-refl, le-antisymm, le-of-lt, le-step, le-of-suc-le-suc, not-suc-le-zero, eq-or-lt-of-le, lt-irrefl, lt-of-lt-of-le, le-trans}
+use Prim.Native.Nat.{ℕ, zero, suc, _+_, _-_, _<_, _≤_}
+use native.Mathlib.Nat.{add-zero, add-suc, le-refl, le-antisymm, le-of-lt, le-step, le-of-suc-le-suc, not-suc-le-zero, eq-or-lt-of-le, lt-irrefl, lt-of-lt-of-le, le-trans}
 use native.Mathlib.Numerals.{add-one}
+use native.Mathlib.Omega.{arith}
 use lib.Dec.{ltb}
 use borrow.Author.Tests.{lt-ltb, le-ltb}
-use Rattle.laws.specs.Scan.{least}
+use Rattle.laws.specs.Scan.{some-below, least}
+use Rattle.lookup.specs.Groups.{from, or-left, or-right}
 
 -- after i indices: none has passed, and the loop holds n and a key above every key; or b is the least, and the loop holds its key
 pub data Leads (n top : ℕ) (p : ℕ → Bool) (key : ℕ → ℕ) (i b low : ℕ) : Type 0 where
@@ -110,6 +112,27 @@ leads-at {n} {top} {p} {key} {i} {j} {b} {low} e l = subst (λ (k : ℕ). Leads 
 pub leads-none : (n top : ℕ) (p : ℕ → Bool) (key : ℕ → ℕ) → Leads n top p key 0 n top
 unfolding least
 leads-none n top p key = none-yet refl refl refl
+
+-- ---- the best so far, past a group
+-- the best so far stays past a group in which none passes
+pub leads-past : {n top : ℕ} {p : ℕ → Bool} {key : ℕ → ℕ} {b low : ℕ} (m i : ℕ) → ((j : ℕ) → key j < top) → Leads n top p key i b low → some-below m (from i p) ≡ false
+    → Leads n top p key (i + m) b low
+unfolding some-below
+leads-past {n} {top} {p} {key} {b} {low} zero i small l h = subst (λ (k : ℕ). Leads n top p key k b low) (sym (add-zero i)) l
+leads-past {n} {top} {p} {key} {b} {low} (suc m) i small l h =
+    subst (λ (k : ℕ). Leads n top p key k b low) (add-one (i + m) ∙ sym (add-suc i m))
+    (leads-keep (leads-past m i small l (or-left (some-below m (from i p)) (p (i + m)) h)) (small (i + m))
+    (ap (λ (t : Bool). cond t (ltb (key (i + m)) low) false) (or-right (some-below m (from i p)) (p (i + m)) h)))
+
+-- the same up to r
+pub leads-up-to : {n top : ℕ} {p : ℕ → Bool} {key : ℕ → ℕ} {b low : ℕ} (i r : ℕ) → i ≤ r → ((j : ℕ) → key j < top) → Leads n top p key i b low
+    → some-below (r - i) (from i p) ≡ false
+    → Leads n top p key r b low
+leads-up-to {n} {top} {p} {key} {b} {low} i r l small h g =
+    subst (λ (k : ℕ). Leads n top p key k b low) whole (leads-past (r - i) i small h g)
+  where
+    whole : i + (r - i) ≡ r
+    whole = omega arith
 
 -- ---- what the scan gives, in the paper's words
 -- b passes, none that passes has a lower key, and none before it has its key

@@ -1,11 +1,11 @@
--- `lookup::address::lower`: the match first, then its INDEX.
+-- `addresses::lower`: the match first, then its INDEX.
 use borrow.Author.Needs.{needs}
 use mathlib.Core.Path.{_≡_, ap, sym, _∙_}
 use mathlib.Core.Bool.{Bool, true, false, cond}
 use Prim.Native.Nat.{ℕ}
 use lib.Dec.{ltb}
-use Rattle.lookup.proofs.address.lower.Statement.{statement}
-use Rattle.lookup.proofs.address.lower.Tie as tie
+use Rattle.addresses.proofs.lower.Statement.{statement}
+use Rattle.addresses.proofs.lower.Tie as tie
 
 -- a first test that holds leaves the second
 then-second : (a r b : Bool) → r ≡ a → r ≡ true → b ≡ cond a b false

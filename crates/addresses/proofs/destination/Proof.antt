@@ -1,4 +1,4 @@
--- `lookup::address::destination`: the loop holds the lowest match so far and its INDEX.
+-- `addresses::destination`: the loop holds the lowest match so far and its INDEX.
 use mathlib.Core.Path.{_≡_, refl, sym, _∙_, subst}
 use Prim.Native.Nat.{ℕ, _+_, _-_, _≤_}
 use native.Mathlib.Nat.{le-of-eq, mod-lt}
@@ -8,12 +8,11 @@ use borrow.Author.Needs.{needs}
 use denote.Ref.{now}
 use Rattle.layout.specs.Layout.{imageIn, countOf}
 use Rattle.image.specs.Fields.{index}
-use Rattle.lookup.specs.Address.{matches}
-use Rattle.lookup.specs.Groups.{leads-up-to}
-use Rattle.lookup.specs.Least.{Leads, leads-none, leads-end, leads-within}
-use Rattle.lookup.specs.Leading.{Leading, none-match}
-use Rattle.lookup.proofs.address.destination.Statement.{statement}
-use Rattle.lookup.proofs.address.destination.Tie as tie
+use Rattle.addresses.specs.Address.{matches}
+use Rattle.addresses.specs.Least.{Leads, leads-none, leads-up-to, leads-end, leads-within}
+use Rattle.addresses.specs.Leading.{Leading, none-match}
+use Rattle.addresses.proofs.destination.Statement.{statement}
+use Rattle.addresses.proofs.destination.Tie as tie
 
 abbrev Inv-loop : tie.InvT-loop
 Inv-loop image vlan mac n shared key best₀ i₀ best i = (i ≤ n) × Leading (imageIn image) vlan mac i best

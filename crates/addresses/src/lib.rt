@@ -1,4 +1,4 @@
-// Entries of 05 for an address: one that bars a source from a port, and the one for a destination.
+// Entries of 05 for an address: one that bars a source from a port, and the one for a destination. Searched by groups, as 07 is in `lookup`.
 ghost use mathlib.Core.Path.{_≡_};
 ghost use mathlib.Core.Bool.{cond, not, false};
 ghost use Prim.Native.Nat.{_+_, _-_, _%_, _≤_, _<_};
@@ -7,9 +7,9 @@ ghost use lib.ListN.{length};
 ghost use Rattle.layout.specs.Layout.{Held, imageWords, imageIn, countOf};
 ghost use Rattle.image.specs.Fields.{sharedLearn, macaddr, destports, index};
 ghost use Rattle.laws.specs.Scan.{some-below};
 ghost use Rattle.lookup.specs.Groups.{from};
-ghost use Rattle.lookup.specs.Address.{holds, likeAddress, matches, bars, barred, destinationAt};
-ghost use Rattle.lookup.specs.Leading.{Leading};
+ghost use Rattle.addresses.specs.Address.{holds, likeAddress, matches, bars, barred, destinationAt};
+ghost use Rattle.addresses.specs.Leading.{Leading};
 
 // Is the port in the mask?
 pub fn holds(mask: u64, port: usize) -> bool
@@ -80,7 +80,7 @@ fn none_like(image: &[u32], key: u32, i: usize) -> bool
     let mut all: u32 = 2147483648;
     let mut k: usize = 0;
     while k < 16 {
-        all = all & crate::apart(short(image, i + k), key);
+        all = all & lookup::apart(short(image, i + k), key);
         k += 1;
     }
     all >> 31 == 1

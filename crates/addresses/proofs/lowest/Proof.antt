@@ -1,4 +1,4 @@
--- `lookup::address::lowest`: the loop holds the lowest match so far and its INDEX.
+-- `addresses::lowest`: the loop holds the lowest match so far and its INDEX.
 use mathlib.Core.Path.{_≡_, sym, ap}
 use mathlib.Core.Logic.{⊎-elim}
 use Prim.Native.Nat.{ℕ, _+_, _-_, _≤_}
@@ -8,10 +8,10 @@ use lib.Pow.{pow-pos}
 use borrow.Author.Needs.{needs}
 use Rattle.layout.specs.Layout.{imageIn, countOf}
 use Rattle.image.specs.Fields.{index}
-use Rattle.lookup.specs.Address.{matches}
-use Rattle.lookup.specs.Least.{Leads, leads-at, leads-taken, leads-kept}
-use Rattle.lookup.proofs.address.lowest.Statement.{statement}
-use Rattle.lookup.proofs.address.lowest.Tie as tie
+use Rattle.addresses.specs.Address.{matches}
+use Rattle.addresses.specs.Least.{Leads, leads-at, leads-taken, leads-kept}
+use Rattle.addresses.proofs.lowest.Statement.{statement}
+use Rattle.addresses.proofs.lowest.Tie as tie
 
 abbrev Inv-loop : tie.InvT-loop
 Inv-loop image shared vlan mac i count entry₀ low₀ k₀ entry low k =

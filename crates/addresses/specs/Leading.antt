@@ -8,10 +8,10 @@ use borrow.Author.Tests.{eq-eqb, ne-eqb}
 use Rattle.laws.specs.Scan.{some-below}
 use Rattle.layout.specs.Layout.{countOf}
 use Rattle.image.specs.Fields.{macaddr, enfport, destports, sharedLearn, addressVlanid, index}
-use Rattle.lookup.specs.Address.{holds, likeAddress, hasAddress, matches, bars}
+use Rattle.addresses.specs.Address.{holds, likeAddress, hasAddress, matches, bars}
 use Rattle.lookup.specs.Groups.{from, none-more}
-use Rattle.lookup.specs.Least.{Leads}
-use Rattle.lookup.specs.declared.address.Best.{Best}
+use Rattle.addresses.specs.Least.{Leads}
+use Rattle.addresses.specs.declared.Best.{Best}
 
 -- after i entries: the match with the lowest INDEX and that INDEX, or the count of 05 and 1,024
 abbrev pub Leading : List ℕ → ℕ → ℕ → ℕ → Best → Type 0

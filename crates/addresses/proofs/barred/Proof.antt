@@ -1,4 +1,4 @@
--- `lookup::address::barred`: none of the entries that the loop has passed bars the source.
+-- `addresses::barred`: none of the entries that the loop has passed bars the source.
 use mathlib.Core.Path.{_≡_, sym, _∙_, ap}
 use mathlib.Core.Bool.{false}
 use Prim.Native.Nat.{ℕ, _+_, _-_, _≤_}
@@ -7,11 +7,11 @@ use borrow.Author.Needs.{needs}
 use denote.Ref.{now}
 use Rattle.laws.specs.Scan.{some-below, some-none}
 use Rattle.layout.specs.Layout.{imageIn, countOf}
-use Rattle.lookup.specs.Address.{bars}
+use Rattle.addresses.specs.Address.{bars}
 use Rattle.lookup.specs.Groups.{none-yet, none-up-to, some-rest, some-in}
-use Rattle.lookup.specs.Leading.{none-bar}
-use Rattle.lookup.proofs.address.barred.Statement.{statement}
-use Rattle.lookup.proofs.address.barred.Tie as tie
+use Rattle.addresses.specs.Leading.{none-bar}
+use Rattle.addresses.proofs.barred.Statement.{statement}
+use Rattle.addresses.proofs.barred.Tie as tie
 
 abbrev Inv-loop : tie.InvT-loop
 Inv-loop image port vlan mac n shared key i₀ i = (i ≤ n) × (some-below i (bars (imageIn image) port vlan mac) ≡ false)

@@ -1,4 +1,4 @@
--- `lookup::address::next_like`: no entry of the groups that the loop has passed is like the address.
+-- `addresses::next_like`: no entry of the groups that the loop has passed is like the address.
 use mathlib.Core.Path.{_≡_, sym, _∙_, ap}
 use mathlib.Core.Bool.{Bool, false}
 use Prim.Native.Nat.{ℕ, _-_, _≤_}
@@ -8,10 +8,10 @@ use borrow.Author.Needs.{needs}
 use denote.Ref.{now}
 use Rattle.laws.specs.Scan.{some-below, some-none}
 use Rattle.layout.specs.Layout.{imageIn}
-use Rattle.lookup.specs.Address.{likeAddress}
+use Rattle.addresses.specs.Address.{likeAddress}
 use Rattle.lookup.specs.Groups.{from, none-further, not-none}
-use Rattle.lookup.proofs.address.next_like.Statement.{statement}
-use Rattle.lookup.proofs.address.next_like.Tie as tie
+use Rattle.addresses.proofs.next_like.Statement.{statement}
+use Rattle.addresses.proofs.next_like.Tie as tie
 
 abbrev Inv-loop : tie.InvT-loop
 Inv-loop image key i n j₀ j = (i ≤ j) × (j ≤ n) × (some-below (j - i) (from i (likeAddress (imageIn image) key)) ≡ false)

@@ -1,4 +1,4 @@
--- `lookup::address::one_bars`: none of the entries that the loop has passed bars the source.
+-- `addresses::one_bars`: none of the entries that the loop has passed bars the source.
 use mathlib.Core.Path.{_≡_, refl, sym, _∙_}
 use mathlib.Core.Bool.{false}
 use Prim.Native.Nat.{_-_, _≤_}
@@ -6,10 +6,10 @@ use native.Mathlib.Omega.{arith}
 use borrow.Author.Needs.{needs}
 use Rattle.laws.specs.Scan.{some-below, some-none, some-not, some-found, some-end}
 use Rattle.layout.specs.Layout.{imageIn}
-use Rattle.lookup.specs.Address.{bars}
+use Rattle.addresses.specs.Address.{bars}
 use Rattle.lookup.specs.Groups.{from}
-use Rattle.lookup.proofs.address.one_bars.Statement.{statement}
-use Rattle.lookup.proofs.address.one_bars.Tie as tie
+use Rattle.addresses.proofs.one_bars.Statement.{statement}
+use Rattle.addresses.proofs.one_bars.Tie as tie
 
 abbrev Inv-loop : tie.InvT-loop
 Inv-loop image shared port vlan mac i count k₀ k = (k ≤ count) × (some-below k (from i (bars (imageIn image) port vlan mac)) ≡ false)

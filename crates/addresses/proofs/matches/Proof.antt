@@ -1,11 +1,11 @@
--- `lookup::address::matches`: the address, then the VLAN where VLANs are compared.
+-- `addresses::matches`: the address, then the VLAN where VLANs are compared.
 use borrow.Author.Needs.{needs}
 use mathlib.Core.Path.{ap}
 use Prim.Native.Nat.{ℕ}
 use lib.Dec.{eqb}
 use Rattle.laws.specs.Chain.{chain, carried, pass-eq, pass-ne, of-eq, of-ne}
-use Rattle.lookup.proofs.address.matches.Statement.{statement}
-use Rattle.lookup.proofs.address.matches.Tie as tie
+use Rattle.addresses.proofs.matches.Statement.{statement}
+use Rattle.addresses.proofs.matches.Tie as tie
 
 pub matches-spec : {M : Type 1} → statement M
 matches-spec =

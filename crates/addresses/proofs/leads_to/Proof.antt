@@ -1,10 +1,10 @@
--- `lookup::address::leads_to`: the mask that was read is the entry's.
+-- `addresses::leads_to`: the mask that was read is the entry's.
 use borrow.Author.Needs.{needs}
 use mathlib.Core.Path.{_∙_, ap}
 use Prim.Native.Nat.{ℕ}
-use Rattle.lookup.specs.Address.{holds}
-use Rattle.lookup.proofs.address.leads_to.Statement.{statement}
-use Rattle.lookup.proofs.address.leads_to.Tie as tie
+use Rattle.addresses.specs.Address.{holds}
+use Rattle.addresses.proofs.leads_to.Statement.{statement}
+use Rattle.addresses.proofs.leads_to.Tie as tie
 
 pub leads-to-spec : {M : Type 1} → statement M
 leads-to-spec =

@@ -1,4 +1,4 @@
--- `lookup::address::none_like`: the top bit is set as long as none of the entries is like the address.
+-- `addresses::none_like`: the top bit is set as long as none of the entries is like the address.
 use mathlib.Core.Path.{_∙_, ap}
 use mathlib.Core.Bool.{not}
 use Prim.Native.Nat.{ℕ, _-_, _<_, _≤_, _^_}
@@ -8,10 +8,10 @@ use lib.Dec.{eqb}
 use borrow.Author.Needs.{needs}
 use Rattle.laws.specs.Scan.{flag}
 use Rattle.layout.specs.Layout.{imageIn}
 use Rattle.lookup.specs.Groups.{from, Clear, clear-none, clear-more, clear-end}
-use Rattle.lookup.specs.Address.{likeAddress}
-use Rattle.lookup.proofs.address.none_like.Statement.{statement}
-use Rattle.lookup.proofs.address.none_like.Tie as tie
+use Rattle.addresses.specs.Address.{likeAddress}
+use Rattle.addresses.proofs.none_like.Statement.{statement}
+use Rattle.addresses.proofs.none_like.Tie as tie
 
 abbrev Inv-loop : tie.InvT-loop
 Inv-loop image key i all₀ k₀ all k = (k ≤ 16) × Clear (from i (likeAddress (imageIn image) key)) k all

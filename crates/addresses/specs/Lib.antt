@@ -1,0 +1,5 @@
+-- What is looked up in 05 of a loaded image.
+pub mod Address
+pub mod Least
+pub mod Leading
+pub mod Proved
