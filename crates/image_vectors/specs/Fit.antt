@@ -1,21 +1,45 @@
 -- A buffer with an image whose counts are all within their limits: each entry below its table's count is there to read.
-use mathlib.Core.Path.{_≡_, sym, subst, _∙_}
-use mathlib.Core.Bool.{Bool, false}
-use mathlib.Core.List.{List}
-use Prim.Native.Nat.{ℕ, _<_, _≤_}
+use mathlib.Core.Path.{_≡_, refl, sym, _∙_, ap, subst}
+use mathlib.Core.List.{List, [], _∷_, _++_}
+use Prim.Native.Nat.{ℕ, zero, suc, _<_, _≤_}
 use native.Mathlib.Omega.{arith}
 use lib.Dec.{lit<}
-use lib.ListN.{length}
+use lib.ListN.{length, drop, replicate}
 use Rattle.layout.specs.Layout.{imageWords, imageIn, countOf, Held}
-use Rattle.layout.specs.Loaded.{overLimit}
-use Rattle.image.specs.Sound.{Within, within-limits}
+use Rattle.image.specs.Sound.{Within}
+use Rattle.stream.specs.Fine.{Fine, cleared-fine, step-fine}
+use Rattle.stream.specs.Machine.{Machine, at, fresh, cleared, step}
+use Rattle.stream.specs.declared.Load.{Load}
+use Rattle.states.specs.Leaves.{Leaves}
+use Rattle.states.proofs.Laws.{leaves-at}
 
 pub record Fit (buffer : List ℕ) : Type 0 where
   pub whole : imageWords ≤ length buffer
   pub within : Within (imageIn buffer)
 
-pub fit : (buffer : List ℕ) (b : Bool) → imageWords ≤ length buffer → b ≡ overLimit (imageIn buffer) → b ≡ false → Fit buffer
-fit buffer b h e f = record { whole = h; within = within-limits (imageIn buffer) (sym e ∙ f) }
+-- what every step of a load keeps
+pub fit : (l : Load) (buffer : List ℕ) → Fine (at l buffer) → Fit buffer
+fit l buffer f = record { whole = f .whole; within = f .within }
+
+-- a load that has not begun, over zeros
+zeros : (n m : ℕ) → replicate {A = ℕ} n 0 ++ drop m [] ≡ replicate {A = ℕ} n 0
+zeros zero zero = refl
+zeros zero (suc m) = refl
+zeros (suc n) m = ap (λ (l : List ℕ). 0 ∷ l) (zeros n m)
+
+pub starts : (l : Load) (buffer : List ℕ) → l ≡ fresh → buffer ≡ replicate imageWords 0 → Fine (at l buffer)
+unfolding cleared
+starts l buffer e z =
+    subst (λ (m : Machine). Fine m)
+    (ap (λ (b : List ℕ). at fresh b) (zeros imageWords imageWords ∙ sym z) ∙ ap (λ (x : Load). at x buffer) (sym e))
+    (cleared-fine fresh [] tt)
+
+-- one word more
+pub goes-on : (l r s : Load) (buffer after b : List ℕ) (w : ℕ) → Fine (at l buffer) → Leaves (step (at l buffer) w) r after → s ≡ r → b ≡ after → Fine (at s b)
+goes-on l r s buffer after b w f e h k =
+    subst (λ (m : Machine). Fine m)
+    (sym (ap (λ (x : Load). at x b) h ∙ ap (λ (x : List ℕ). at r x) k ∙ leaves-at e))
+    (step-fine (at l buffer) w f)
 
 -- entry i of table k is there
 pub held : (buffer : List ℕ) (k i n : ℕ) → Fit buffer → k < 9 → n ≡ countOf (imageIn buffer) k → i < n → Held k i buffer

@@ -1,2 +1,2 @@
--- What the readers of fields ask, from the tests that are made once for an image.
+-- What the readers of fields ask, from what every step of a load keeps.
 pub mod Fit
