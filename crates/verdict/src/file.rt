@@ -1,13 +1,8 @@
 // The stream's file: counted first, then sent in writes.
+use states::Wrote;
 use stream::Answer;
-ghost use Prim.Native.Nat.{_<_};
-ghost use Rattle.io.specs.Counts.{Counts};
-
-// How many bytes a call moved, and whether a read failed.
-pub struct Filled {
-    pub count: usize,
-    pub broken: bool,
-}
+use stream::Load;
+use stream::bytes::word_at;
 
 // What counting a file's bytes came to.
 enum Counted {
@@ -18,42 +13,6 @@ enum Counted {
 
 // A file that does not end is counted up to here; past it 9 is not asked.
 const BUDGET: u64 = 4294967296;
-
-// What was read, no more than there is.
-fn filled_with(done: usize, buf: &[u8], broken: bool) -> Filled
-    ensures { λ r. ⌜ Counts (r .count) (now (buf .entry)) ⌝ }
-{
-    if done <= buf.len() {
-        Filled {
-            count: done,
-            broken,
-        }
-    } else {
-        Filled {
-            count: buf.len(),
-            broken,
-        }
-    }
-}
-
-// Reads until buf is full, the input ends or a read fails.
-pub fn fill(fd: i32, buf: &mut [u8]) -> Filled
-    ensures { λ r. ⌜ Counts (r .count) (now (buf .exit)) ⌝ }
-{
-    let mut done: usize = 0;
-    while done < buf.len() {
-        let got = libc::read(fd, &mut buf[done..]);
-        if got < 0 {
-            return filled_with(done, buf, true);
-        }
-        let n = io::count(got, &buf[done..]);
-        if n == 0 {
-            return filled_with(done, buf, false);
-        }
-        done += n;
-    }
-    filled_with(done, buf, false)
-}
 
 // Counts what is left of a file.
 fn count_bytes(fd: i32) -> Counted {
@@ -73,60 +32,41 @@ fn count_bytes(fd: i32) -> Counted {
     Counted::PastBudget
 }
 
-fn octet(x: u8) -> u32 {
-    x as u32
-}
-
-// The words of a write, each from its four bytes, the most significant first.
-fn words_of(bytes: &[u8; 256]) -> [u32; 64] {
-    let mut words = [0u32; 64];
-    let mut i: usize = 0;
-    while i < 256 {
-        words[i / 4] = words[i / 4] << 8 | octet(bytes[i]);
-        i += 1;
+// The words of these bytes, a word a write. An answer that was told is repeated, so the last one counts.
+fn send_words(image: &mut [u32], load: Load, bytes: &[u8]) -> Wrote {
+    let mut wrote = Wrote {
+        load,
+        answer: Answer::More,
+    };
+    let mut at: usize = 0;
+    while 4 <= bytes.len() - at {
+        wrote = loader::write(image, wrote.load, &[word_at(bytes, at)]);
+        at += 4;
     }
-    words
+    wrote
 }
 
-// A number of words, no more than there are.
-fn at_most(n: usize, words: &[u32]) -> usize
-    ensures { λ r. ⌜ Counts r (now (words .entry)) ⌝ }
-{
-    if n <= words.len() { n } else { words.len() }
-}
-
-// What a write has to say: its number, or that more is wanted.
-enum Said {
-    More,
-    Number(u32),
-}
-
-fn heard(answer: Answer) -> Said {
-    match answer {
-        Answer::More => Said::More,
-        Answer::Loaded => Said::Number(0),
-        Answer::Refused(n) => Said::Number(n),
-    }
-}
-
-// Writes of 64 words until one answers otherwise than "more" or the file ends, which is 10. Every stream is answered within 32,182 words,
-// so the turns are never used up.
+// What is left of a file, part by part, until the answer is another than "more" or the file ends, which is 10. Every stream is answered within
+// 32,182 words, so the turns are never used up.
 fn send(fd: i32, image: &mut [u32]) -> u32 {
     let mut load = states::fresh();
     let mut turns: u32 = 1024;
     while 0 < turns {
-        let mut bytes = [0u8; 256];
-        let filled = fill(fd, &mut bytes);
-        let n = filled.count / 4;
-        if n == 0 {
+        let mut bytes = io::large_buffer();
+        let n = io::read_full(fd, &mut bytes);
+        if n < 4 {
             return 10;
         }
-        let words = words_of(&bytes);
-        let count = at_most(n, &words);
-        let wrote = loader::write(image, load, &words[..count]);
+        let wrote = send_words(image, load, &bytes[..n]);
         let answer = wrote.answer;
-        if let Said::Number(number) = heard(answer) {
-            return number;
+        match answer {
+            Answer::More => {}
+            Answer::Loaded => {
+                return 0;
+            }
+            Answer::Refused(number) => {
+                return number;
+            }
         }
         load = wrote.load;
         turns -= 1;

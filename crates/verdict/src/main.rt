@@ -5,18 +5,15 @@ mod list;
 mod print;
 
 fn main() {
+    // Where there is no argument, or one that is too long, the path is empty: no file has it, which is 10.
     let mut path = io::buffer();
     let length = os::arg(1, &mut path);
-    if os::errno() != 0 {
-        print::config_refused(10);
-        return;
-    }
     let mut image = [0u32; 11456];
     let number = file::load(&path[..length], &mut image);
     if number != 0 {
         print::config_refused(number);
         return;
     }
-    print::text(b"config loaded\n");
+    io::write_all(libc::STDOUT_FILENO, b"config loaded\n");
     list::walk(&image);
 }

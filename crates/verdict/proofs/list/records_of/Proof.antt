@@ -1,16 +1,43 @@
 -- `verdict::list::records_of`: each record's end is past its start, so what is left of the list falls.
-use Prim.Native.Nat.{_-_}
+use mathlib.Core.List.{List}
+use mathlib.Core.Logic.{⊎-elim}
+use mathlib.Core.Path.{_≡_, _∙_, ap, subst, sym}
+use Prim.Native.Nat.{ℕ, _-_, _<_, _≤_}
+use native.Mathlib.Omega.{arith}
 use lib.ListN.{length}
+use denote.Ref.{now}
+use Rattle.records.specs.Answer.{told}
+use Rattle.records.specs.List.{Stands, standsAt}
+use Rattle.records.specs.Promises.{inside}
+use Rattle.records.specs.Walk.{Inside}
+use Rattle.records.specs.declared.Record.{Record}
+use Rattle.records.specs.declared.Record.the-variants as answer
 use borrow.Author.Needs.{needs}
-use Rattle.records.specs.Promises.{steps}
 use Rattle.verdict.proofs.list.records_of.Statement.{statement}
 use Rattle.verdict.proofs.list.records_of.Tie as tie
 
 abbrev Inv-loop : tie.InvT-loop
-Inv-loop image list broken ledger₀ record₀ at₀ none ledger «record» at = Unit {0}
+Inv-loop image list broken ledger₀ record₀ at₀ ledger «record» at = «record» ≤ at
 
 abbrev μ-loop : tie.MeasureT-loop
-μ-loop image list broken ledger₀ record₀ at₀ none ledger «record» at = length list - at
+μ-loop image list broken ledger₀ record₀ at₀ ledger «record» at = length list - at
+
+-- the next place is past this one, and the bytes in front of it are the list's
+abbrev Moves : List ℕ → ℕ → ℕ → ℕ → Type 0
+Moves list at «from» next = (at < next) × («from» ≤ next) × (next ≤ length list)
+
+module _ (list : List ℕ) (at : ℕ) (r : Record) (is : told r ≡ standsAt list at) where
+  inside-case : (case : Record) → r ≡ case → Inside list at (told case)
+  inside-case case e = subst (λ (s : Stands). Inside list at s) (sym is ∙ ap told e) (inside list at)
+
+  moves-frame : (port time start count next : ℕ) → r ≡ answer.Frame port time start count next → (to «from» : ℕ) → to ≡ next → «from» ≡ start → Moves list at «from» to
+  moves-frame port time start count next e to «from» p q = let i = inside-case (answer.Frame port time start count next) e in omega arith
+
+  moves-release : (partition next : ℕ) → r ≡ answer.Release partition next → (to «from» : ℕ) → to ≡ next → «from» ≡ next → Moves list at «from» to
+  moves-release partition next e to «from» p q = let i = inside-case (answer.Release partition next) e in omega arith
+
+moves : (c : tie.At-match-came Inv-loop μ-loop) → Moves (now (c .before .before .before .before .before .args .list)) (c .before .before .loop .at) (c .match .from) (c .match .at)
+moves c = ⊎-elim (λ w. search (needs, moves-frame)) (λ w. search (needs, moves-release)) (c .match .came)
 
 pub records-of-spec : {M : Type 1} → statement M
 records-of-spec =
@@ -18,28 +45,22 @@ records-of-spec =
     (tie.spec
     Inv-loop
     μ-loop
-    (λ c. search needs)
-    (λ c κs. search needs)
-    (λ c. search needs)
-    (λ c. search (needs, steps))
-    (λ c. search (needs, steps))
-    (λ c. search (needs, steps))
-    (λ c κs. search needs)
-    (λ c κs. search needs)
-    (λ c. search (needs, steps))
+    (λ c. omega arith)
+    (λ c κs. tt)
     (λ c. search needs)
     (λ c. search needs)
     (λ c. search needs)
-    (λ c κs. search needs)
-    (λ c κs. search needs)
-    (λ c. search (needs, steps))
+    (λ c κs. tt)
+    (λ c. tt)
+    (λ c. tt)
     (λ c. search needs)
-    (λ c. search needs)
-    (λ c κs. search needs)
-    (λ c κs. search needs)
-    (λ c. search needs)
-    (λ c. search needs)
-    (λ c. search needs)
-    (λ c κs. search needs)
-    (λ c κs. search needs)
-    (λ c. search needs))
+    (λ c κs. tt)
+    (λ c. tt)
+    (λ c. omega (arith, moves (c .before .before)))
+    (λ c. omega (arith, moves (c .before .before)))
+    (λ c. omega (arith, moves (c .before .before)))
+    (λ c κs. tt)
+    (λ c κs. tt)
+    (λ c. omega (arith, moves (c .before .before .before .before .before .before)))
+    (λ c. omega (arith, moves (c .before .before .before .before .before .before)))
+    (λ c. omega (arith, moves (c .before .before .before .before .before .before))))
