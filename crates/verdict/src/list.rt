@@ -1,8 +1,6 @@
 // The list of records: read whole, walked with one ledger, then the tiles.
 use crate::print;
 use ledger::CELLS;
-use ledger::Ledger;
-use lent::Event;
 use records::Record;
 use records::Refusal;
 ghost use Rattle.io.specs.Counts.{Counts};
@@ -38,15 +36,13 @@ fn fill(buf: &mut [u8]) -> Filled
     }
 }
 
-// Each record in turn, and what it tells; what is left of the walk ends it.
-fn records_of(image: &[u32], list: &[u8], fresh: Ledger, broken: bool) -> Ledger {
-    let mut ledger = fresh;
+// Each record in turn, and what it tells; the row is brought up to date by each. What is left of the walk ends it.
+fn records_of(image: &[u32], list: &[u8], row: &mut [u64; CELLS], broken: bool) {
     let mut record: u64 = 1;
     let mut at: usize = records::FIRST;
     loop {
         let found = reader::record_from(list, at);
-        let from: usize;
-        let event = match found {
+        match found {
             Record::Frame {
                 port,
                 time,
@@ -54,30 +50,27 @@ fn records_of(image: &[u32], list: &[u8], fresh: Ledger, broken: bool) -> Ledger
                 count: _,
                 next,
             } => {
-                from = start;
+                print::verdict(
+                    record,
+                    judge::judge(image, row, port, time, &list[start..next]),
+                );
                 at = next;
-                Event::Frame(port, time)
             }
             Record::Release { partition, next } => {
-                from = next;
+                print::released(record, release::release(image, row, partition));
                 at = next;
-                Event::Release(partition)
             }
             Record::End => {
                 if broken {
                     print::list_refused(Refusal::Cut);
                 }
-                return ledger;
+                return;
             }
             Record::Refused(why) => {
                 print::list_refused(why);
-                return ledger;
+                return;
             }
-        };
-        let brought = lent::bring_once(image, ledger, event, &list[from..at]);
-        let told = brought.told;
-        print::told(record, told);
-        ledger = brought.ledger;
+        }
         record += 1;
     }
 }
@@ -91,6 +84,6 @@ pub fn walk(image: &[u32]) {
     }
     let mut cells = [0u64; CELLS];
     fresh::fresh_ledger(image, &mut cells);
-    let end = records_of(image, &list[..count], Ledger { cells }, filled.broken);
-    print::tiles(image, &end.cells);
+    records_of(image, &list[..count], &mut cells, filled.broken);
+    print::tiles(image, &cells);
 }

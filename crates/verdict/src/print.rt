@@ -3,7 +3,6 @@ use ledger::Answer;
 use ledger::CELLS;
 use ledger::DROPS;
 use ledger::FRAMES;
-use lent::Told;
 use libc::STDOUT_FILENO;
 use records::Refusal;
 use settle::Verdict;
@@ -60,31 +59,32 @@ pub fn list_refused(why: Refusal) {
     line(b"list refused #\n", &[records::number_of(why)]);
 }
 
-pub fn told(record: u64, t: Told) {
-    match t {
-        Told::Judged(v) => match v {
-            Verdict::Refused(n) => refused(n),
-            Verdict::Drop(n) => line(b"frame # drop #\n", &[record, n as u64]),
-            Verdict::Sent(s) => line(
-                b"frame # sent # vlan # prio # tags # queues # # # # #\n",
-                &[
-                    record,
-                    s.ports,
-                    s.vlan,
-                    s.priority,
-                    s.tags,
-                    s.queue0,
-                    s.queue1,
-                    s.queue2,
-                    s.queue3,
-                    s.queue4,
-                ],
-            ),
-        },
-        Told::Released(a) => match a {
-            Answer::Refused(n) => refused(n),
-            Answer::Done => line(b"release # ok\n", &[record]),
-        },
+pub fn verdict(record: u64, v: Verdict) {
+    match v {
+        Verdict::Refused(n) => refused(n),
+        Verdict::Drop(n) => line(b"frame # drop #\n", &[record, n as u64]),
+        Verdict::Sent(s) => line(
+            b"frame # sent # vlan # prio # tags # queues # # # # #\n",
+            &[
+                record,
+                s.ports,
+                s.vlan,
+                s.priority,
+                s.tags,
+                s.queue0,
+                s.queue1,
+                s.queue2,
+                s.queue3,
+                s.queue4,
+            ],
+        ),
+    }
+}
+
+pub fn released(record: u64, a: Answer) {
+    match a {
+        Answer::Refused(n) => refused(n),
+        Answer::Done => line(b"release # ok\n", &[record]),
     }
 }
 

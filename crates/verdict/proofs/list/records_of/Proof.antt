@@ -17,26 +17,33 @@ use Rattle.verdict.proofs.list.records_of.Statement.{statement}
 use Rattle.verdict.proofs.list.records_of.Tie as tie
 
 abbrev Inv-loop : tie.InvT-loop
-Inv-loop image list broken ledger₀ record₀ at₀ ledger «record» at = «record» ≤ at
+Inv-loop image list row₀ broken record₀ at₀ row «record» at = «record» ≤ at
 
 abbrev μ-loop : tie.MeasureT-loop
-μ-loop image list broken ledger₀ record₀ at₀ ledger «record» at = length list - at
+μ-loop image list row₀ broken record₀ at₀ row «record» at = length list - at
 
--- the next place is past this one, and the bytes in front of it are the list's
-abbrev Moves : List ℕ → ℕ → ℕ → ℕ → Type 0
-Moves list at «from» next = (at < next) × («from» ≤ next) × (next ≤ length list)
+-- the next place is past this one, and within the list
+abbrev Moves : List ℕ → ℕ → ℕ → Type 0
+Moves list at to = (at < to) × (to ≤ length list)
 
 module _ (list : List ℕ) (at : ℕ) (r : Record) (is : told r ≡ standsAt list at) where
   inside-case : (case : Record) → r ≡ case → Inside list at (told case)
   inside-case case e = subst (λ (s : Stands). Inside list at s) (sym is ∙ ap told e) (inside list at)
 
-  moves-frame : (port time start count next : ℕ) → r ≡ answer.Frame port time start count next → (to «from» : ℕ) → to ≡ next → «from» ≡ start → Moves list at «from» to
-  moves-frame port time start count next e to «from» p q = let i = inside-case (answer.Frame port time start count next) e in omega arith
+  module _ (port time start count next : ℕ) (e : r ≡ answer.Frame port time start count next) where
+    frame-starts : start ≤ next
+    frame-starts = let i = inside-case (answer.Frame port time start count next) e in omega arith
 
-  moves-release : (partition next : ℕ) → r ≡ answer.Release partition next → (to «from» : ℕ) → to ≡ next → «from» ≡ next → Moves list at «from» to
-  moves-release partition next e to «from» p q = let i = inside-case (answer.Release partition next) e in omega arith
+    frame-ends : next ≤ length list
+    frame-ends = let i = inside-case (answer.Frame port time start count next) e in omega arith
 
-moves : (c : tie.At-match-came Inv-loop μ-loop) → Moves (now (c .before .before .before .before .before .args .list)) (c .before .before .loop .at) (c .match .from) (c .match .at)
+    moves-frame : (to : ℕ) → to ≡ next → Moves list at to
+    moves-frame to p = let i = inside-case (answer.Frame port time start count next) e in omega arith
+
+  moves-release : (partition next : ℕ) → r ≡ answer.Release partition next → (to : ℕ) → to ≡ next → Moves list at to
+  moves-release partition next e to p = let i = inside-case (answer.Release partition next) e in omega arith
+
+moves : (c : tie.At-match-came Inv-loop μ-loop) → Moves (now (c .before .before .before .before .before .args .list)) (c .before .before .loop .at) (c .match .at)
 moves c = ⊎-elim (λ w. search (needs, moves-frame)) (λ w. search (needs, moves-release)) (c .match .came)
 
 pub records-of-spec : {M : Type 1} → statement M
@@ -48,7 +55,14 @@ records-of-spec =
     (λ c. omega arith)
     (λ c κs. tt)
     (λ c. search needs)
+    (λ c. search (needs, frame-starts))
+    (λ c. search (needs, frame-starts))
+    (λ c. search (needs, frame-ends))
+    (λ c κs. tt)
+    (λ c κs. tt)
     (λ c. search needs)
+    (λ c κs. tt)
+    (λ c κs. tt)
     (λ c. search needs)
     (λ c κs. tt)
     (λ c. tt)
@@ -56,11 +70,6 @@ records-of-spec =
     (λ c. search needs)
     (λ c κs. tt)
     (λ c. tt)
-    (λ c. omega (arith, moves (c .before .before)))
-    (λ c. omega (arith, moves (c .before .before)))
-    (λ c. omega (arith, moves (c .before .before)))
-    (λ c κs. tt)
-    (λ c κs. tt)
-    (λ c. omega (arith, moves (c .before .before .before .before .before .before)))
-    (λ c. omega (arith, moves (c .before .before .before .before .before .before)))
-    (λ c. omega (arith, moves (c .before .before .before .before .before .before))))
+    (λ c. omega (arith, moves c))
+    (λ c. omega (arith, moves c))
+    (λ c. omega (arith, moves c)))
