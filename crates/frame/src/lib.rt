@@ -51,12 +51,7 @@ pub fn mac_at(frame: &[u8], at: usize) -> u64
     requires { ⌜ at + 6 ≤ length (now frame) ⌝ }
     ensures { λ r. ⌜ r ≡ macAt (now (frame .entry)) at ⌝ }
 {
-    wide(frame[at]) * 0x10000000000
-        + wide(frame[at + 1]) * 0x100000000
-        + wide(frame[at + 2]) * 0x1000000
-        + wide(frame[at + 3]) * 0x10000
-        + wide(frame[at + 4]) * 0x100
-        + wide(frame[at + 5])
+    pair_at(frame, at) * 0x100000000 + pair_at(frame, at + 2) * 0x10000 + pair_at(frame, at + 4)
 }
 
 pub fn tag_of(frame: &[u8]) -> Tag

@@ -15,9 +15,8 @@ ghost use Prim.Native.Nat.{_<_, _≤_};
 ghost use lib.ListN.{length};
 ghost use Rattle.layout.specs.Layout.{imageIn};
 ghost use Rattle.image.specs.Sound.{Sound};
-ghost use Rattle.enter.specs.Laws.{Through};
 ghost use Rattle.judge.specs.Refusal.{mistimed, unjudged, refusalOf};
-ghost use Rattle.judge.specs.Judge.{byEntry, planFor, Judges};
+ghost use Rattle.judge.specs.Judge.{planFor, Judges};
 
 // 35 and 38: the most bytes of a frame, and the frames of a port at which no more are counted.
 const MOST_BYTES: usize = 4096;
@@ -64,13 +63,13 @@ fn refusal(image: &[u32], row: &[u64; CELLS], port: usize, time: u64, frame: &[u
     unjudged(row, port, time, frame)
 }
 
-fn by_entry(image: &[u32], port: usize, frame: &[u8], entered: Entered) -> Planned
+// Steps 1 to 8, and the course of the rest.
+fn plan_for(image: &[u32], port: usize, frame: &[u8]) -> Planned
     requires { ⌜ Sound (now image) ⌝ }
     requires { ⌜ port < 5 ⌝ }
-    requires { ⌜ Through (imageIn (now image)) (now frame) entered ⌝ }
-    ensures { λ r. ⌜ r ≡ byEntry (imageIn (now (image .entry))) port (now (frame .entry)) entered ⌝ }
+    ensures { λ r. ⌜ r ≡ planFor (imageIn (now (image .entry))) port (now (frame .entry)) ⌝ }
 {
-    match entered {
+    match enter::enter(image, port, frame) {
         Entered::Dropped(drop) => Planned::Dropped(drop),
         Entered::In {
             vlan,
@@ -78,16 +77,6 @@ fn by_entry(image: &[u32], port: usize, frame: &[u8], entered: Entered) -> Plann
             priority,
         } => plan::plan(image, port, frame, vlan, place, priority),
     }
-}
-
-// Steps 1 to 8, and the course of the rest.
-fn plan_for(image: &[u32], port: usize, frame: &[u8]) -> Planned
-    requires { ⌜ Sound (now image) ⌝ }
-    requires { ⌜ port < 5 ⌝ }
-    ensures { λ r. ⌜ r ≡ planFor (imageIn (now (image .entry))) port (now (frame .entry)) ⌝ }
-{
-    let entered = enter::enter(image, port, frame);
-    by_entry(image, port, frame, entered)
 }
 
 // The verdict on a frame that came in at a port at a time in µs.

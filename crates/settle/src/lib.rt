@@ -74,18 +74,21 @@ fn run(row: &mut [u64; CELLS], course: Course, time: u64, octets: u64) -> Verdic
 {
     let meter = course.meter;
     let partition = course.partition;
-    let held = Held {
-        credit: row[CREDIT + meter],
-        since: row[SINCE + meter],
-        units: row[UNITS + partition],
-    };
-    let s = settle(course, held, time, octets);
+    let s = settle(
+        course,
+        Held {
+            credit: row[CREDIT + meter],
+            since: row[SINCE + meter],
+            units: row[UNITS + partition],
+        },
+        time,
+        octets,
+    );
     let after = s.held;
-    let verdict = s.verdict;
     row[UNITS + partition] = after.units;
     row[CREDIT + meter] = after.credit;
     row[SINCE + meter] = after.since;
-    verdict
+    s.verdict
 }
 
 // A plan on the row: a drop spends nothing.

@@ -3,6 +3,7 @@ use mathlib.Core.Path.{_≡_, sym, _∙_, ap}
 use mathlib.Core.Bool.{false}
 use Prim.Native.Nat.{ℕ, _+_, _-_, _≤_}
 use native.Mathlib.Omega.{arith}
+use lib.Dec.{lit<}
 use borrow.Author.Needs.{needs}
 use denote.Ref.{now}
 use Rattle.laws.specs.Scan.{some-below, some-none}
@@ -50,24 +51,44 @@ returns-2 c =
     let whole : l .i + (n .result - l .i) ≡ n .result = omega arith in
     c .one-bars2 .ensures ∙ sym (some-rest (n .result - l .i) (l .i) p (l .inv .1)) ∙ ap (λ (k : ℕ). some-below k p) (whole ∙ n .ensures .0)
 
+-- a group of sixteen, and what is left, within the count
+module _ (i n m : ℕ) (e : n ≡ m) where
+  group : 16 ≤ n - i → i + 16 ≤ m
+  group h = omega arith
+
+  rest : i ≤ n → i + (n - i) ≤ m
+  rest h = omega arith
+
+least : (n : ℕ) → 0 ≤ n
+least n = omega arith
+
+within : (i n : ℕ) → 16 ≤ n - i → i + 16 ≤ n
+within i n h = omega arith
+
 pub barred-spec : {M : Type 1} → statement M
 barred-spec =
     tie.close
     (tie.spec
     Inv-loop
     μ-loop
-    (λ c κs. search needs)
-    (λ c κs. search needs)
-    (λ c κs. search needs)
-    (λ c κs. search needs)
+    (λ c κs. (c .before .pre .0 .0, lit< tt))
+    (λ c κs. let s = c .before .before .pre .0 in (s .0, s .2))
+    (λ c κs. tt)
+    (λ c κs. let s = c .before .before .before .before .pre .0 in ((s .0, s .1, c .key-of .ensures .1), (c .before .before .count .ensures .0, least _)))
     loop-holds
     (λ c. search needs)
-    (λ c κs. search needs)
+    (λ c κs.
+    let s = c .before .before .before .before .before .before .before .pre in
+    ((s .0 .0, s .0 .1, group _ _ _ (c .before .before .before .before .before .count .ensures .0) (c .loop-test .taken)), (c .before .before .before .before .shared-learn .ensures .0, s .1)))
     returns
     (λ c. search needs)
-    (λ c κs. search needs)
+    (λ c κs.
+    let s = c .before .before .before .before .before .before .before .before .before .pre .0 in
+    ((s .0, s .1, c .before .before .before .before .before .key-of .ensures .1), (c .before .before .before .before .before .before .before .count .ensures .0, within _ _ (c .before .before .loop-test .taken))))
     (λ c. search needs)
     loop-again
     (λ c. search needs)
-    (λ c κs. search needs)
+    (λ c κs.
+    let s = c .before .before .before .before .before .before .before .pre in
+    ((s .0 .0, s .0 .1, rest _ _ _ (c .before .before .before .before .before .count .ensures .0) (c .before .loop .inv .0)), (c .before .before .before .before .shared-learn .ensures .0, s .1)))
     returns-2)

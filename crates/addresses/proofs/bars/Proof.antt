@@ -8,9 +8,9 @@ pub bars-spec : {M : Type 1} → statement M
 bars-spec =
     tie.close
     (tie.spec
-    (λ c κs. search needs)
+    (λ c κs. c .before .pre .0)
     (λ c. search (needs, chain, carried) depth 40)
-    (λ c κs. search needs)
+    (λ c κs. let s = c .before .before .before .pre in (s .0, s .1 .1))
     (λ c. search (needs, chain, carried) depth 40)
-    (λ c κs. search needs)
+    (λ c κs. let s = c .before .before .before .before .before .pre in (s .0, s .1 .0))
     (λ c. search (needs, chain, carried) depth 40))

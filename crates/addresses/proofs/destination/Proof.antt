@@ -4,6 +4,7 @@ use Prim.Native.Nat.{ℕ, _+_, _-_, _≤_}
 use native.Mathlib.Nat.{le-of-eq, mod-lt}
 use native.Mathlib.Omega.{arith}
 use lib.Pow.{pow-pos}
+use lib.Dec.{lit<}
 use borrow.Author.Needs.{needs}
 use denote.Ref.{now}
 use Rattle.layout.specs.Layout.{imageIn, countOf}
@@ -43,23 +44,45 @@ returns c =
     let back = le-of-eq (sym (whole ∙ n .ensures .0)) in
     (leads-end _ refl back at (c .lowest2 .ensures), leads-within at (c .lowest2 .ensures))
 
+-- a group of sixteen, and what is left, within the count
+module _ (i n m : ℕ) (e : n ≡ m) where
+  group : 16 ≤ n - i → i + 16 ≤ m
+  group h = omega arith
+
+  rest : i ≤ n → i + (n - i) ≤ m
+  rest h = omega arith
+
+least : (n : ℕ) → 0 ≤ n
+least n = omega arith
+
+within : (i n : ℕ) → 16 ≤ n - i → i + 16 ≤ n
+within i n h = omega arith
+
 pub destination-spec : {M : Type 1} → statement M
 destination-spec =
     tie.close
     (tie.spec
     Inv-loop
     μ-loop
-    (λ c κs. search needs)
-    (λ c κs. search needs)
-    (λ c κs. search needs)
-    (λ c κs. search needs)
+    (λ c κs. (c .before .pre .0, lit< tt))
+    (λ c κs. let s = c .before .before .pre in (s .0, s .2))
+    (λ c κs. tt)
+    (λ c κs. let s = c .before .before .before .before .pre in ((s .0, s .1, c .key-of .ensures .1), (c .before .before .count .ensures .0, least _)))
     loop-holds
     (λ c. search needs)
-    (λ c κs. search needs)
+    (λ c κs.
+    let s = c .before .before .before .before .before .before .before .pre in
+    let l = c .before .loop in
+    ((s .0, s .1, group _ _ _ (c .before .before .before .before .before .count .ensures .0) (c .loop-test .taken)), (c .before .before .before .before .shared-learn .ensures .0, l .inv .1)))
     (λ c. search needs)
-    (λ c κs. search needs)
+    (λ c κs.
+    let s = c .before .before .before .before .before .before .before .before .pre in
+    ((s .0, s .1, c .before .before .before .before .key-of .ensures .1), (c .before .before .before .before .before .before .count .ensures .0, within _ _ (c .before .loop-test .taken))))
     (λ c. search needs)
     loop-again
     (λ c. search needs)
-    (λ c κs. search needs)
+    (λ c κs.
+    let s = c .before .before .before .before .before .before .before .pre in
+    let l = c .before .loop in
+    ((s .0, s .1, rest _ _ _ (c .before .before .before .before .before .count .ensures .0) (l .inv .0)), (c .before .before .before .before .shared-learn .ensures .0, l .inv .1)))
     returns)

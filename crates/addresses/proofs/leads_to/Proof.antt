@@ -1,5 +1,4 @@
 -- `addresses::leads_to`: the mask that was read is the entry's.
-use borrow.Author.Needs.{needs}
 use mathlib.Core.Path.{_∙_, ap}
 use Prim.Native.Nat.{ℕ}
 use Rattle.addresses.specs.Address.{holds}
@@ -10,6 +9,6 @@ pub leads-to-spec : {M : Type 1} → statement M
 leads-to-spec =
     tie.close
     (tie.spec
-    (λ c κs. search needs)
-    (λ c κs. search needs)
+    (λ c κs. c .before .pre .0)
+    (λ c κs. c .before .before .pre .1)
     (λ c. c .holds .ensures ∙ ap (λ (x : ℕ). holds x (c .before .before .before .args .port)) (c .before .destports .ensures .0)))

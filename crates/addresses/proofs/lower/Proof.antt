@@ -1,5 +1,4 @@
 -- `addresses::lower`: the match first, then its INDEX.
-use borrow.Author.Needs.{needs}
 use mathlib.Core.Path.{_≡_, ap, sym, _∙_}
 use mathlib.Core.Bool.{Bool, true, false, cond}
 use Prim.Native.Nat.{ℕ}
@@ -18,8 +17,8 @@ pub lower-spec : {M : Type 1} → statement M
 lower-spec =
     tie.close
     (tie.spec
-    (λ c κs. search needs)
-    (λ c κs. search needs)
+    (λ c κs. c .before .pre)
+    (λ c κs. c .before .before .before .pre .0)
     (λ c.
     ap (λ (x : ℕ). ltb x (c .before .before .before .before .args .low)) (c .index .ensures .0)
     ∙ then-second _ _ _ (c .before .before .matches .ensures) (c .before .if1 .taken))

@@ -1,7 +1,7 @@
 -- `addresses::lowest`: the loop holds the lowest match so far and its INDEX.
 use mathlib.Core.Path.{_≡_, sym, ap}
 use mathlib.Core.Logic.{⊎-elim}
-use Prim.Native.Nat.{ℕ, _+_, _-_, _≤_}
+use Prim.Native.Nat.{ℕ, _+_, _-_, _<_, _≤_}
 use native.Mathlib.Omega.{arith}
 use native.Mathlib.Nat.{mod-lt, add-zero, le-antisymm}
 use lib.Pow.{pow-pos}
@@ -40,6 +40,10 @@ returns c =
     let a = c .before .before .before .args in
     leads-at (ap (λ (n : ℕ). a .i + n) (le-antisymm (l .inv .0) (c .loop-test .left))) (l .inv .1)
 
+-- an entry of the part is one of the table
+inside : (i k m n : ℕ) → i + m ≤ n → k < m → i + k < n
+inside i k m n h l = omega arith
+
 pub lowest-spec : {M : Type 1} → statement M
 lowest-spec =
     tie.close
@@ -48,8 +52,10 @@ lowest-spec =
     μ-loop
     (λ c. (search needs, leads-at (sym (add-zero (c .before .args .i))) (c .before .pre .1 .1)))
     (λ c. search needs)
-    (λ c κs. search needs)
-    (λ c κs. search needs)
+    (λ c κs.
+    let s = c .before .before .before .pre in
+    (record { whole = s .0 .0; within = s .0 .1; there = inside _ _ _ _ (s .0 .2) (c .loop-test .taken) }, s .1 .0))
+    (λ c κs. let s = c .before .before .before .before .before .pre .0 in record { whole = s .0; within = s .1; there = inside _ _ _ _ (s .2) (c .before .before .loop-test .taken) })
     (λ c. search needs)
     (λ c. search needs)
     loop-again

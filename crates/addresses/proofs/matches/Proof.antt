@@ -11,10 +11,10 @@ pub matches-spec : {M : Type 1} → statement M
 matches-spec =
     tie.close
     (tie.spec
-    (λ c κs. search needs)
+    (λ c κs. c .before .pre .0)
     (λ c. search (needs, chain, carried) depth 40)
     (λ c. search (needs, chain, carried) depth 40)
-    (λ c κs. search needs)
+    (λ c κs. c .before .before .before .before .pre .0)
     (λ c.
     let s = c .before .before .before .before .before in
     pass-ne _ _ _ _ _ (of-eq _ _ _ (c .before .before .before .macaddr .ensures .0) (c .before .before .if1 .left))

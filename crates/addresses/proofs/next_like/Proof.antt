@@ -1,7 +1,7 @@
 -- `addresses::next_like`: no entry of the groups that the loop has passed is like the address.
 use mathlib.Core.Path.{_≡_, sym, _∙_, ap}
 use mathlib.Core.Bool.{Bool, false}
-use Prim.Native.Nat.{ℕ, _-_, _≤_}
+use Prim.Native.Nat.{ℕ, _+_, _-_, _≤_}
 use native.Mathlib.Nat.{le-refl}
 use native.Mathlib.Omega.{arith}
 use borrow.Author.Needs.{needs}
@@ -31,6 +31,10 @@ loop-again c =
     let a = c .before .before .before .before .before .args in
     (omega arith, omega arith, none-further (likeAddress (imageIn (now (a .image))) (a .key)) (a .i) (l .j) 16 (l .inv .0) (l .inv .2) (not-none _ (sym (c .before .none-like .ensures) ∙ c .if1 .taken)))
 
+-- the whole group is in the table
+group : (j n m : ℕ) → n ≡ m → 16 ≤ n - j → j + 16 ≤ m
+group j n m e h = omega arith
+
 pub next-like-spec : {M : Type 1} → statement M
 next-like-spec =
     tie.close
@@ -39,7 +43,7 @@ next-like-spec =
     μ-loop
     (λ c. let a = c .before .args in (le-refl (a .i), c .before .pre .1 .1, none-here (likeAddress (imageIn (now (a .image))) (a .key)) (a .i)))
     (λ c. search needs)
-    (λ c κs. search needs)
+    (λ c κs. let s = c .before .before .before .pre in (s .0 .0, s .0 .1, group _ _ _ (s .1 .0) (c .loop-test .taken), s .0 .2))
     (λ c. search needs)
     (λ c. search needs)
     loop-again

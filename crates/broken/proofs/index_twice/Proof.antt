@@ -1,7 +1,8 @@
 -- `broken::index_twice`: what the marks say after each turn is a law of the scan.
-use mathlib.Core.Path.{_≡_, sym, _∙_, ap}
+use lib.Dec.{lit<}
+use mathlib.Core.Path.{_≡_, sym, _∙_, ap, subst}
 use mathlib.Core.List.{List}
-use Prim.Native.Nat.{ℕ, _-_, _≤_}
+use Prim.Native.Nat.{ℕ, _-_, _≤_, _<_}
 use native.Mathlib.Omega.{arith}
 use borrow.Author.Needs.{needs}
 use denote.Ref.{now}
@@ -27,17 +28,23 @@ loop-again c =
       counting-more _ 1024 (l .i) (l .again) _ _ (l .marks) (l .inv .1) (c .before .index .ensures .0) (c .before .index .ensures .1) (c .wide .ensures .0),
     )
 
+-- below the count that was read is below the image's
+to : (i n m : ℕ) → n ≡ m → i < n → i < m
+to i n m e h = subst (λ (x : ℕ). i < x) e h
+
 pub index-twice-spec : {M : Type 1} → statement M
 index-twice-spec =
     tie.close
     (tie.spec
     Inv-loop
     μ-loop
-    (λ c κs. search needs)
+    (λ c κs. (c .before .pre .whole, lit< tt))
     (λ c. (search needs, counting-none _ 1024))
-    (λ c κs. search needs)
+    (λ c κs.
+    let w = c .before .before .before .before .pre in
+    record { whole = w .whole; within = w .addresses; there = to _ _ _ (c .before .before .count .ensures .0) (c .loop-test .taken) })
     (λ c. search needs)
-    (λ c κs. search needs)
+    (λ c κs. tt)
     (λ c. search needs)
     (λ c. search needs)
     (λ c. search needs)

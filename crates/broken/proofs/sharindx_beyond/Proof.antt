@@ -4,7 +4,7 @@ use mathlib.Core.Bool.{Bool, false, not}
 use mathlib.Core.List.{List}
 use Prim.Native.Nat.{ℕ, _-_, _≤_, _<_}
 use native.Mathlib.Omega.{arith}
-use lib.Dec.{ltb}
+use lib.Dec.{ltb, lit<}
 use borrow.Author.Needs.{needs}
 use borrow.Author.Tests.{lt-ltb, le-ltb}
 use denote.Ref.{now}
@@ -35,15 +35,21 @@ loop-again c =
     let image = now (c .before .before .before .before .before .before .args .image) in
     (omega arith, some-not (c .before .before .before .loop .i) (beyond image) (c .before .before .before .loop .inv .1) (ap not (lt-ltb (sharindx (imageIn image) (c .before .before .before .loop .i)) (countOf (imageIn image) 1) (omega arith))))
 
+-- below the count that was read is below the image's
+to : (i n m : ℕ) → n ≡ m → i < n → i < m
+to i n m e h = subst (λ (x : ℕ). i < x) e h
+
 pub sharindx-beyond-spec : {M : Type 1} → statement M
 sharindx-beyond-spec =
     tie.close
     (tie.spec
     Inv-loop
     μ-loop
-    (λ c κs. search needs)
+    (λ c κs. (c .before .pre .whole, lit< tt))
     (λ c. (search needs, some-none _))
-    (λ c κs. search needs)
+    (λ c κs.
+    let w = c .before .before .before .before .pre in
+    record { whole = w .whole; within = w .policers; there = to _ _ _ (c .before .before .count .ensures .0) (c .loop-test .taken) })
     returns
     (λ c. search needs)
     (λ c. search needs)

@@ -1,10 +1,10 @@
 -- `broken::space_over`: the sum of the spaces that the loop has passed.
-use mathlib.Core.Path.{_≡_, refl, sym, _∙_, ap}
+use mathlib.Core.Path.{_≡_, refl, sym, _∙_, ap, subst}
 use mathlib.Core.List.{List}
-use Prim.Native.Nat.{ℕ, _+_, _-_, _*_, _≤_}
+use Prim.Native.Nat.{ℕ, _+_, _-_, _*_, _≤_, _<_}
 use native.Mathlib.Nat.{le-antisymm}
 use native.Mathlib.Omega.{arith}
-use lib.Dec.{ltb}
+use lib.Dec.{ltb, lit<}
 use borrow.Author.Needs.{needs}
 use denote.Ref.{now}
 use Rattle.laws.specs.Scan.{total, total-none, total-more}
@@ -39,6 +39,9 @@ returns c =
     let l = c .before .loop in
     ap (λ (x : ℕ). ltb 929 x) (l .inv .2 ∙ ap (λ (k : ℕ). total k (space image)) (le-antisymm (l .inv .0) (c .loop-test .left)))
 
+one : (m : ℕ) → 1 ≡ m → 0 < m
+one m e = subst (λ (x : ℕ). 0 < x) e (lit< tt)
+
 pub space-over-spec : {M : Type 1} → statement M
 space-over-spec =
     tie.close
@@ -46,7 +49,9 @@ space-over-spec =
     Inv-loop
     μ-loop
     (λ c. (search needs, search needs, sym (total-none _)))
-    (λ c κs. search needs)
+    (λ c κs.
+    let s = c .before .before .before .pre in
+    (record { whole = s .0 .whole; within = s .0 .spaces; there = one _ (sym (s .1)) }, c .loop-test .taken))
     (λ c. search needs)
     (λ c. search needs)
     (λ c. search needs)

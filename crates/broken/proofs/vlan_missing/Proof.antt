@@ -90,6 +90,10 @@ loop-again c =
           (is-marked (imageIn (now (s .args .image))) (now (s .args .marks)) (v .result) (l .port) (s .pre .1 .1 .0) (s .pre .1 .1 .1) (v .ensures .0) (v .ensures .1) (c .if1 .left)),
     )
 
+-- below five is below the image's
+to : (i n m : ℕ) → n ≡ m → i < n → i < m
+to i n m e h = subst (λ (x : ℕ). i < x) e h
+
 pub vlan-missing-spec : {M : Type 1} → statement M
 vlan-missing-spec =
     tie.close
@@ -97,7 +101,9 @@ vlan-missing-spec =
     Inv-loop
     μ-loop
     (λ c. (search needs, some-none _))
-    (λ c κs. search needs)
+    (λ c κs.
+    let s = c .before .before .before .pre in
+    record { whole = s .0 .whole; within = s .0 .ports; there = to _ _ _ (sym (s .1 .0)) (c .loop-test .taken) })
     (λ c. c .vlanid .ensures .1)
     returns
     (λ c. search needs)

@@ -2,10 +2,10 @@
 use mathlib.Core.Path.{_≡_, refl, sym, _∙_, ap, subst}
 use mathlib.Core.Bool.{not}
 use mathlib.Core.List.{List}
-use Prim.Native.Nat.{ℕ, _-_, _≤_}
+use Prim.Native.Nat.{ℕ, _-_, _≤_, _<_}
 use native.Mathlib.Nat.{le-antisymm}
 use native.Mathlib.Omega.{arith}
-use lib.Dec.{eqb}
+use lib.Dec.{eqb, lit<}
 use borrow.Author.Needs.{needs}
 use borrow.Author.Tests.{eq-eqb, ne-eqb}
 use denote.Ref.{now}
@@ -50,17 +50,23 @@ vlan-missing-requires c κs =
 by-count : (c : tie.After-loop Inv-loop μ-loop) → not (eqb (c .before .loop .again) 0) ≡ vlanTwice (imageIn (now (c .before .before .before .before .args .image)))
 by-count c = counting-end _ 4096 (c .before .loop .i) (c .before .loop .again) _ _ _ (c .before .loop .inv .1) (c .loop-test .left) (c .before .loop .inv .0) (c .before .before .count .ensures .0)
 
+-- below the count that was read is below the image's
+to : (i n m : ℕ) → n ≡ m → i < n → i < m
+to i n m e h = subst (λ (x : ℕ). i < x) e h
+
 pub vlans-broken-spec : {M : Type 1} → statement M
 vlans-broken-spec =
     tie.close
     (tie.spec
     Inv-loop
     μ-loop
-    (λ c κs. search needs)
+    (λ c κs. (c .before .pre .0 .whole, lit< tt))
     (λ c. (search needs, counting-none _ 4096))
-    (λ c κs. search needs)
+    (λ c κs.
+    let w = c .before .before .before .before .pre .0 in
+    record { whole = w .whole; within = w .vlans; there = to _ _ _ (c .before .before .count .ensures .0) (c .loop-test .taken) })
     (λ c. search needs)
-    (λ c κs. search needs)
+    (λ c κs. tt)
     (λ c. search needs)
     (λ c. search needs)
     (λ c. search needs)

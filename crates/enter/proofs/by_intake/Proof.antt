@@ -15,7 +15,7 @@ by-intake-spec =
     (tie.spec
     (λ c. search needs)
     (λ c. search needs)
-    (λ c κs. search needs)
+    (λ c κs. c .before .before .before .before .before .pre .0)
     (λ c κs.
     let s = c .before .before .before .before .before .before in
     let h = subst (Whole (now (s .args .frame))) (c .before .before .intake2 .given .1) (s .pre .1 .1) in

@@ -1,6 +1,5 @@
 -- `enter::enter`: what steps 1 to 3 answer, and then.
 use mathlib.Core.Path.{sym, ap, subst, _∙_}
-use borrow.Author.Needs.{needs}
 use denote.Ref.{now}
 use Rattle.layout.specs.Layout.{imageIn}
 use Rattle.frame.specs.Laws.{Whole, whole}
@@ -13,7 +12,7 @@ unfolding enterOf
 enter-spec =
     tie.close
     (tie.spec
-    (λ c κs. search needs)
+    (λ c κs. c .before .before .pre)
     (λ c κs.
     let s = c .before .before .before in
     (s .pre .0, (s .pre .1, subst (Whole (now (s .args .frame))) (sym (c .take-in .ensures)) (whole (imageIn (now (s .args .image))) (s .args .port) (now (s .args .frame))))))

@@ -1,5 +1,4 @@
 -- `enter::outsider`: no member, and tagged.
-use borrow.Author.Needs.{needs}
 use mathlib.Core.Path.{_≡_, sym, _∙_, ap}
 use mathlib.Core.Bool.{Bool, true, false, cond, not}
 use Rattle.enter.proofs.outsider.Statement.{statement}
@@ -16,6 +15,6 @@ pub outsider-spec : {M : Type 1} → statement M
 outsider-spec =
     tie.close
     (tie.spec
-    (λ c κs. search needs)
+    (λ c κs. c .before .before .pre)
     (λ c. when-tagged _ _ _ (c .before .if1 .taken) (c .member .ensures))
     (λ c. when-not _ _ (c .if1 .left)))

@@ -18,8 +18,8 @@ by-tag-spec =
     tie.close
     (tie.spec
     (λ c. search needs)
-    (λ c κs. search needs)
+    (λ c κs. c .before .before .before .pre)
     (λ c. search needs)
-    (λ c κs. search needs)
+    (λ c κs. c .before .before .before .before .pre)
     returns
     returns-2)

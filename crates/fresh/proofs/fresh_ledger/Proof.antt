@@ -1,5 +1,4 @@
 -- `fresh::fresh_ledger`: refused, or full.
-use borrow.Author.Needs.{needs}
 use Rattle.ledger.specs.Laws.{loaded-as}
 use Rattle.fresh.specs.Fresh.{not-fresh, is-fresh}
 use Rattle.fresh.proofs.fresh_ledger.Statement.{statement}
@@ -9,8 +8,8 @@ pub fresh-ledger-spec : {M : Type 1} → statement M
 fresh-ledger-spec =
     tie.close
     (tie.spec
-    (λ c κs. search needs)
-    (λ c κs. search needs)
-    (λ c. search (needs, not-fresh))
-    (λ c κs. search (needs, loaded-as))
-    (λ c. search (needs, is-fresh)))
+    (λ c κs. tt)
+    (λ c κs. tt)
+    (λ c. search not-fresh)
+    (λ c κs. search loaded-as)
+    (λ c. search is-fresh))

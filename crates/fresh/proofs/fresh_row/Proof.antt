@@ -33,11 +33,11 @@ fresh-row-spec =
     μ-loop2
     (λ c. (search needs, filling-none _))
     (λ c κs. search needs)
-    (λ c. search needs)
-    (λ c. search needs)
-    (λ c. search needs)
-    (λ c. search needs)
-    (λ c. search needs)
+    (λ c. omega arith)
+    (λ c. omega arith)
+    (λ c. omega arith)
+    (λ c. omega arith)
+    (λ c. omega arith)
     (λ c.
     let l = c .before .before .loop in
     (omega arith, partition-more (imageIn (now (c .before .before .before .before .args .image))) (l .row) (l .j) _ (l .inv .1) (c .before .loop-test .taken) (c .part-spc .ensures .0)))
@@ -47,11 +47,11 @@ fresh-row-spec =
     let s = c .before .before .before .before in
     (zero-le, subst (λ (m : ℕ). m ≤ many credit) (sym (c .count .ensures .0)) (s .pre .within .policers), meters-on (imageIn (now (s .args .image))) (l .row) (l .j) (l .inv .1) (l .inv .0) (c .before .loop-test .left)))
     (λ c κs. search needs)
-    (λ c. search needs)
-    (λ c. search needs)
-    (λ c. search needs)
-    (λ c. search needs)
-    (λ c. search needs)
+    (λ c. omega arith)
+    (λ c. omega arith)
+    (λ c. omega arith)
+    (λ c. omega arith)
+    (λ c. omega arith)
     (λ c.
     let l = c .before .before .loop2 in
     (omega arith, l .inv .1, meter-more (imageIn (now (c .before .before .before .before .before .before .before .args .image))) (l .row) (l .k) _ (l .inv .2) (omega arith) (c .full .ensures .0)))

@@ -1,10 +1,10 @@
 -- `fresh::no_ledger`: its cells as the definition has them.
 use mathlib.Core.Path.{refl}
-use borrow.Author.Needs.{needs}
+use native.Mathlib.Omega.{arith}
 use Rattle.fresh.specs.Fresh.{noLedger}
 use Rattle.fresh.proofs.no_ledger.Statement.{statement}
 use Rattle.fresh.proofs.no_ledger.Tie as tie
 
 pub no-ledger-spec : {M : Type 1} → statement M
 unfolding noLedger
-no-ledger-spec = tie.close (tie.spec (λ c. search needs) (λ c. search needs) (λ c. refl))
+no-ledger-spec = tie.close (tie.spec (λ c. omega arith) (λ c. omega arith) (λ c. refl))

@@ -10,14 +10,14 @@ pub judge-spec : {M : Type 1} → statement M
 judge-spec =
     tie.close
     (tie.spec
-    (λ c κs. search needs)
+    (λ c κs. tt)
     (λ c. search (needs, is-refused))
-    (λ c. search needs)
+    (λ c. omega arith)
     (λ c κs. let a = admitted-as _ _ _ _ _ _ (c .before .refusal .ensures) (c .if1 .left) in (a .image, a .inside))
     (λ c κs.
     let a = admitted-as _ _ _ _ _ _ (c .before .before .before .refusal .ensures) (c .before .before .if1 .left) in
     (plan-runs _ _ _ _ (a .image) (c .before .plan-for .ensures), omega (arith, a .short)))
-    (λ c κs. search needs)
+    (λ c κs. tt)
     (λ c κs.
     let p = c .before .before .before .before in
     let a = admitted-as _ _ _ _ _ _ (p .before .before .refusal .ensures) (p .before .if1 .left) in

@@ -1,5 +1,4 @@
 -- `judge::refusal`: what stands before every call, then the frame's own.
-use borrow.Author.Needs.{needs}
 use Rattle.laws.specs.Chain.{at-zero, not-zero}
 use Rattle.judge.specs.Refusal.{refusalOf}
 use Rattle.judge.proofs.refusal.Statement.{statement}
@@ -10,7 +9,7 @@ unfolding refusalOf
 refusal-spec =
     tie.close
     (tie.spec
-    (λ c κs. search needs)
-    (λ c. search (needs, not-zero))
-    (λ c κs. search needs)
-    (λ c. search (needs, at-zero)))
+    (λ c κs. tt)
+    (λ c. search not-zero)
+    (λ c κs. tt)
+    (λ c. search at-zero))

@@ -1,8 +1,11 @@
 -- `list_bytes::number_at`: after i bytes n is the number that they make.
 use mathlib.Core.Path.{_≡_}
-use Prim.Native.Nat.{_-_, _^_, _<_, _≤_}
+use mathlib.Core.List.{[]}
+use Prim.Native.Nat.{_-_, _^_, _<_, _≤_, zero-le}
 use native.Mathlib.Omega.{arith}
+use lib.Dec.{lit<}
 use borrow.Author.Needs.{needs}
+use denote.Ref.{now}
 use Rattle.list_bytes.specs.Bytes.{numberAt}
 use Rattle.list_bytes.specs.Laws.{number-none, number-more, number-small, number-fits, number-room}
 use Rattle.list_bytes.proofs.number_at.Statement.{statement}
@@ -20,15 +23,21 @@ number-at-spec =
     (tie.spec
     Inv-loop
     μ-loop
-    (λ c. search (needs, number-none))
-    (λ c. search (needs, number-room))
+    (λ c. (zero-le, number-none (now (c .before .args .list)) (c .before .args .at), lit< tt))
+    (λ c. let l = c .before .loop in number-room [] 0 (l .i) _ (l .n) 0 (c .loop-test .taken) (c .before .before .before .pre .1) (l .inv .2))
     (λ c. search needs)
     (λ c. search needs)
-    (λ c κs. search needs)
-    (λ c. search (needs, number-fits))
+    (λ c κs. tt)
+    (λ c.
+    let l = c .before .before .before .loop in
+    number-fits [] 0 (l .i) _ (l .n) _ (c .before .before .loop-test .taken) (c .before .before .before .before .before .pre .1) (l .inv .2) (c .wide .ensures .1))
     (λ c. search needs)
-    (λ c. search needs)
-    (λ c. search (needs, number-more, number-small))
+    (λ c. omega arith)
+    (λ c.
+    let l = c .before .before .before .loop in
+    let s = c .before .before .before .before .before in
+    let more = c .before .before .loop-test .taken in
+    (omega arith, number-more (now (s .args .list)) (s .args .at) (l .i) (s .args .width) (l .n) _ more (s .pre .0) (l .inv .1) (c .wide .ensures .0), number-small [] 0 (l .i) _ (l .n) _ more (l .inv .2) (c .wide .ensures .1)))
     (λ c.
     let e : c .before .loop .i ≡ c .before .before .before .args .width = omega arith in
     (rw e at (c .before .loop .inv .1), rw e at (c .before .loop .inv .2))))

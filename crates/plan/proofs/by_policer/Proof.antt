@@ -14,12 +14,12 @@ by-policer-spec =
     (λ c. search needs)
     (λ c. search needs)
     (λ c. search needs)
-    (λ c κs. search needs)
+    (λ c κs. let s = c .before .before .before .before .pre in (s .0, (s .1 .0 .0, s .1 .0 .1)))
     (λ c κs. let s = c .before .before .before .before .before in meter-held _ _ _ _ (s .pre .0) (s .pre .1 .1) (c .before .before .policed .given .1))
     (λ c κs. let s = c .before .before .before .before .before .before in meter-held _ _ _ _ (s .pre .0) (s .pre .1 .1) (c .before .before .before .policed .given .1))
     (λ c κs.
     let s = c .before .before .before .before .before .before .before in policer-held _ _ _ _ (s .pre .0) (s .pre .1 .1) (c .before .before .before .before .policed .given .1))
-    (λ c κs. search needs)
+    (λ c κs. let s = c .before .before .before .before .before .before .before .before .pre in (s .0, (s .1 .0 .0, s .1 .0 .2, s .1 .0 .1)))
     (λ c. ap (byPolicer _ _ _ _ _ _) (sym (c .enum-told .given .1)))
     (λ c. ap (byPolicer _ _ _ _ _ _) (sym (c .enum-told2 .given .1)))
     (λ c.

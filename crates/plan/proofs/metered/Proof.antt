@@ -1,5 +1,4 @@
 -- `plan::metered`: 7 for the meter's entry, then 8.
-use borrow.Author.Needs.{needs}
 use mathlib.Core.Path.{refl}
 use Rattle.laws.specs.Chain.{hit, pass, hit-lt, pass-lt, of-lt, le-of}
 use Rattle.plan.proofs.metered.Statement.{statement}
@@ -9,9 +8,9 @@ pub metered-spec : {M : Type 1} → statement M
 metered-spec =
     tie.close
     (tie.spec
-    (λ c κs. search needs)
+    (λ c κs. c .before .pre .0)
     (λ c. hit _ _ _ _ (c .before .unloaded .ensures) (c .if1 .taken))
-    (λ c κs. search needs)
+    (λ c κs. let s = c .before .before .before .pre in record { whole = s .0 .within .whole; within = s .0 .within .policers; there = s .1 })
     (λ c.
     pass _ _ _ _ _ (c .before .before .before .unloaded .ensures) (c .before .before .if1 .left)
     (hit-lt _ _ _ _ (of-lt _ _ _ (c .before .maxlen .ensures .0) (c .if2 .taken))))

@@ -1,6 +1,7 @@
 -- `plan::plan`: what steps 7 and 8 answer, and then.
 use mathlib.Core.Path.{sym, ap, subst, _∙_}
-use Prim.Native.Nat.{ℕ, _+_}
+use Prim.Native.Nat.{ℕ, _+_, _≤_}
+use native.Mathlib.Omega.{arith}
 use borrow.Author.Needs.{needs}
 use lib.ListN.{length}
 use denote.Ref.{now}
@@ -11,14 +12,18 @@ use Rattle.plan.specs.Laws.{Loaded, policed}
 use Rattle.plan.proofs.plan.Statement.{statement}
 use Rattle.plan.proofs.plan.Tie as tie
 
+-- a frame of sixty bytes has an address at its start
+long : (n : ℕ) → 60 ≤ n → 0 + 6 ≤ n
+long n h = omega arith
+
 pub plan-spec : {M : Type 1} → statement M
 unfolding planOf
 plan-spec =
     tie.close
     (tie.spec
-    (λ c κs. search needs)
+    (λ c κs. long _ (c .before .before .pre .1 .1 .long))
     (λ c. search needs)
-    (λ c κs. search needs)
+    (λ c κs. let s = c .before .before .before .pre in (s .0, (s .1 .0, s .1 .1 .narrow)))
     (λ c κs.
     let s = c .before .before .before .before in
     let h = s .pre .1 .1 in

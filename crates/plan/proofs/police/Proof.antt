@@ -1,5 +1,4 @@
 -- `plan::police`: entry k's answer.
-use borrow.Author.Needs.{needs}
 use mathlib.Core.Path.{ap, _∙_}
 use Prim.Native.Nat.{ℕ}
 use denote.Ref.{now}
@@ -13,8 +12,8 @@ unfolding policedOf
 police-spec =
     tie.close
     (tie.spec
-    (λ c κs. search needs)
-    (λ c κs. search needs)
+    (λ c κs. c .before .pre .1)
+    (λ c κs. c .before .before .pre .0)
     (λ c.
     let s = c .before .before .before .args in
     c .policed-by .ensures ∙ ap (λ (k : ℕ). policedBy (imageIn (now (s .image))) k (s .octets)) (c .before .policer-of .ensures)))

@@ -1,5 +1,4 @@
 -- `plan::policed_by`: 7 for entry k, then its meter's.
-use borrow.Author.Needs.{needs}
 use mathlib.Core.Path.{sym, ap, _∙_}
 use Prim.Native.Nat.{ℕ}
 use borrow.Author.Tests.{leb-false}
@@ -14,7 +13,7 @@ pub policed-by-spec : {M : Type 1} → statement M
 policed-by-spec =
     tie.close
     (tie.spec
-    (λ c κs. search needs)
+    (λ c κs. c .before .pre)
     (λ c. hit _ _ _ _ (c .before .unloaded .ensures) (c .if1 .taken))
     (λ c κs.
     let there = leb-false _ _ (sym (c .before .unloaded .ensures) ∙ c .if1 .left) in

@@ -1,8 +1,8 @@
 -- `ports::send_at`: the tags and the five queues.
-use borrow.Author.Needs.{needs}
 use mathlib.Core.Path.{ap}
 use Prim.Native.Nat.{ℕ}
 use lib.Bits.{bitAnd}
+use lib.Dec.{lit<}
 use Rattle.ports.specs.Ports.{sendingAt}
 use Rattle.ports.specs.Laws.{same-sending}
 use Rattle.ports.proofs.send_at.Statement.{statement}
@@ -13,12 +13,12 @@ unfolding sendingAt
 send-at-spec =
     tie.close
     (tie.spec
-    (λ c κs. search needs)
-    (λ c κs. search needs)
-    (λ c κs. search needs)
-    (λ c κs. search needs)
-    (λ c κs. search needs)
-    (λ c κs. search needs)
+    (λ c κs. let s = c .before .pre in record { whole = s .0 .within .whole; within = s .0 .within .vlans; there = s .1 .1 })
+    (λ c κs. let s = c .before .before .pre in (s .0, (s .1 .0, lit< tt)))
+    (λ c κs. let s = c .before .before .before .pre in (s .0, (s .1 .0, lit< tt)))
+    (λ c κs. let s = c .before .before .before .before .pre in (s .0, (s .1 .0, lit< tt)))
+    (λ c κs. let s = c .before .before .before .before .before .pre in (s .0, (s .1 .0, lit< tt)))
+    (λ c κs. let s = c .before .before .before .before .before .before .pre in (s .0, (s .1 .0, lit< tt)))
     (λ c.
     let q = c .before .before .before .before in
     same-sending _ _ _ _ _ _ _ _ _ _ _ _ _ _ _

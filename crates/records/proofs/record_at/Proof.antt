@@ -11,13 +11,13 @@ unfolding standsAt
 record-at-spec =
     tie.close
     (tie.spec
-    (λ c κs. search needs)
+    (λ c κs. tt)
     (λ c. search needs)
     (λ c. search (needs, chain, cases) depth 40)
     (λ c. search needs)
     (λ c. search (needs, chain, cases) depth 40)
     (λ c. search needs)
-    (λ c κs. search needs)
+    (λ c κs. tt)
     (λ c. search needs)
     (λ c κs. search needs)
     (λ c. search needs)

@@ -1,5 +1,4 @@
 -- `release::refusal`: what stands before every call, then 36 and 37.
-use borrow.Author.Needs.{needs}
 use Rattle.laws.specs.Chain.{at-zero, not-zero}
 use Rattle.ledger.specs.Laws.{sound-as}
 use Rattle.release.specs.Release.{releaseRefusal}
@@ -11,7 +10,7 @@ unfolding releaseRefusal
 refusal-spec =
     tie.close
     (tie.spec
-    (λ c κs. search needs)
-    (λ c. search (needs, not-zero))
-    (λ c κs. search (needs, sound-as))
-    (λ c. search (needs, at-zero)))
+    (λ c κs. tt)
+    (λ c. search not-zero)
+    (λ c κs. search sound-as)
+    (λ c. search at-zero))

@@ -1,4 +1,5 @@
 -- `release::unreleased`: 36, then 37.
+use native.Mathlib.Omega.{arith}
 use borrow.Author.Needs.{needs}
 use Rattle.laws.specs.Chain.{chain, carried}
 use Rattle.release.proofs.unreleased.Statement.{statement}
@@ -8,10 +9,10 @@ pub unreleased-spec : {M : Type 1} → statement M
 unreleased-spec =
     tie.close
     (tie.spec
-    (λ c. search (needs, chain) depth 40)
+    (λ c. search chain depth 40)
     (λ c κs. search needs)
-    (λ c. search needs)
-    (λ c. search needs)
-    (λ c. search needs)
-    (λ c. search (needs, chain, carried) depth 40)
-    (λ c. search (needs, chain, carried) depth 40))
+    (λ c. omega arith)
+    (λ c. omega arith)
+    (λ c. omega arith)
+    (λ c. search (chain, carried) depth 40)
+    (λ c. search (chain, carried) depth 40))

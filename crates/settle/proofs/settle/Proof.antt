@@ -9,5 +9,5 @@ settle-spec =
     tie.close
     (tie.spec
     (λ c κs. search needs)
-    (λ c κs. search needs)
+    (λ c κs. tt)
     (λ c. settles-as _ _ _ _ _ _ (c .before .spend .ensures) (c .verdict-of .ensures)))

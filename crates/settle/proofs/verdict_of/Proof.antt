@@ -5,4 +5,4 @@ use Rattle.settle.proofs.verdict_of.Statement.{statement}
 use Rattle.settle.proofs.verdict_of.Tie as tie
 
 pub verdict-of-spec : {M : Type 1} → statement M
-verdict-of-spec = tie.close (tie.spec (λ c. search (needs, chain) depth 40) (λ c. search (needs, chain) depth 40))
+verdict-of-spec = tie.close (tie.spec (λ c. search chain depth 40) (λ c. search (needs, chain) depth 40))

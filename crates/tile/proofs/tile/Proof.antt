@@ -15,7 +15,7 @@ unfolding askedOf
 tile-spec =
     tie.close
     (tie.spec
-    (λ c κs. search needs)
+    (λ c κs. tt)
     (λ c. tiled _ _ _ _ (hit _ _ _ _ (c .before .too-short .ensures) (c .if1 .taken)))
     (λ c. tiled _ _ _ _ (pass _ _ _ _ _ (c .before .before .too-short .ensures) (c .before .if1 .left) (hit-lt _ _ _ _ (c .if2 .taken))))
     (λ c κs. long-enough (now (c .before .before .before .before .args .image)) _ (c .before .before .too-short .ensures) (c .before .if1 .left))

@@ -25,10 +25,10 @@ returns c =
           ∙ ap (λ (x : ℕ). x / 2 ^ (s .args .bottom % 32) % 2 ^ (s .args .top - s .args .bottom + 1)) (c .before .wide .ensures .0)
           ∙ sym
           (field-in-word (now (s .args .image)) (s .args .base + s .args .i * s .args .size) (s .args .size) (s .args .top) (s .args .bottom) words
-          (search needs)
-          (search needs)
+          (omega arith)
+          (omega arith)
           (c .before .before .before .if1 .taken))
-          ∙ same (s .args .base + s .args .i * s .args .size) (s .args .size) (now (s .args .image)) (s .args .top) (s .args .bottom) (search needs),
+          ∙ same (s .args .base + s .args .i * s .args .size) (s .args .size) (now (s .args .image)) (s .args .top) (s .args .bottom) (omega arith),
       c .cut .ensures .1,
     )
 
@@ -40,10 +40,10 @@ returns-2 c =
           ∙ ap (λ (x : ℕ). x / 2 ^ (s .args .bottom % 32) % 2 ^ (s .args .top - s .args .bottom + 1)) (c .before .pair .ensures)
           ∙ sym
           (field-in-pair (now (s .args .image)) (s .args .base + s .args .i * s .args .size) (s .args .size) (s .args .top) (s .args .bottom) words
-          (search needs)
-          (search needs)
+          (omega arith)
+          (omega arith)
           (omega arith))
-          ∙ same (s .args .base + s .args .i * s .args .size) (s .args .size) (now (s .args .image)) (s .args .top) (s .args .bottom) (search needs),
+          ∙ same (s .args .base + s .args .i * s .args .size) (s .args .size) (now (s .args .image)) (s .args .top) (s .args .bottom) (omega arith),
       c .cut2 .ensures .1,
     )
 
@@ -51,21 +51,21 @@ pub field-spec : {M : Type 1} → statement M
 field-spec =
     tie.close
     (tie.spec
-    (λ c. search needs)
-    (λ c. search needs)
-    (λ c. search needs)
-    (λ c. search needs)
-    (λ c. search needs)
-    (λ c. search needs)
-    (λ c. search needs)
-    (λ c κs. search needs)
+    (λ c. omega arith)
+    (λ c. omega arith)
+    (λ c. omega arith)
+    (λ c. omega arith)
+    (λ c. omega arith)
+    (λ c. omega arith)
+    (λ c. omega arith)
+    (λ c κs. tt)
     (λ c κs. search needs)
     returns
-    (λ c. search needs)
-    (λ c. search needs)
-    (λ c. search needs)
-    (λ c. search needs)
-    (λ c. search needs)
-    (λ c κs. search needs)
+    (λ c. omega arith)
+    (λ c. omega arith)
+    (λ c. omega arith)
+    (λ c. omega arith)
+    (λ c. omega arith)
+    (λ c κs. tt)
     (λ c κs. search needs)
     returns-2)

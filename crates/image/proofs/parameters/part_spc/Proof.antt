@@ -10,9 +10,9 @@ pub part-spc-spec : {M : Type 1} → statement M
 part-spc-spec =
     tie.close
     (tie.spec
-    (λ c. search needs)
-    (λ c. search needs)
-    (λ c. search needs)
-    (λ c. search needs)
+    (λ c. omega arith)
+    (λ c. omega arith)
+    (λ c. omega arith)
+    (λ c. omega arith)
     (λ c κs. search needs)
     (λ c. (c .field .ensures .0, subst (λ (k : ℕ). c .field .result < 2 ^ k) {y = 10} (omega arith) (c .field .ensures .1))))

@@ -8,5 +8,5 @@ pub above-spec : {M : Type 1} → statement M
 above-spec =
     tie.close
     (tie.spec
-    (λ c κs. search needs)
+    (λ c κs. tt)
     (λ c. search (needs, tells-above)))

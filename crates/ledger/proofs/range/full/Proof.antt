@@ -13,6 +13,6 @@ full-spec =
     (tie.spec
     (λ c κs. search needs)
     (λ c κs. search needs)
-    (λ c. search needs)
+    (λ c. omega arith)
     (λ c. (ap (λ (x : ℕ). x * 8000000) (c .smax .ensures .0) ∙ hit-lt _ _ _ _ (lt-of _ _ _ (c .before .before .count .ensures .0) (c .before .if1 .taken)), omega arith))
     (λ c. (pass-lt _ _ _ _ _ (of-le _ _ _ (c .before .count .ensures .0) (c .if1 .left)) refl, omega arith)))

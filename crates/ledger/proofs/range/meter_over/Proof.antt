@@ -1,4 +1,5 @@
 -- `ledger::range::meter_over`: its credit or its time.
+use native.Mathlib.Omega.{arith}
 use borrow.Author.Needs.{needs}
 use Rattle.ledger.specs.Above.{tells-either}
 use Rattle.ledger.proofs.range.meter_over.Statement.{statement}
@@ -8,13 +9,13 @@ pub meter-over-spec : {M : Type 1} → statement M
 meter-over-spec =
     tie.close
     (tie.spec
-    (λ c. search needs)
-    (λ c. search needs)
-    (λ c. search needs)
+    (λ c. omega arith)
+    (λ c. omega arith)
+    (λ c. omega arith)
     (λ c κs. search needs)
-    (λ c. search needs)
-    (λ c. search needs)
-    (λ c. search needs)
-    (λ c. search needs)
+    (λ c. omega arith)
+    (λ c. omega arith)
+    (λ c. omega arith)
+    (λ c. omega arith)
     (λ c κs. search needs)
-    (λ c. search (needs, tells-either)))
+    (λ c. search tells-either))

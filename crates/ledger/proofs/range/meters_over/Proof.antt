@@ -1,5 +1,6 @@
 -- `ledger::range::meters_over`: the meters with an entry, then the others.
 use Prim.Native.Nat.{_-_, _≤_}
+use native.Mathlib.Omega.{arith}
 use borrow.Author.Needs.{needs}
 use Rattle.laws.specs.Scan.{some-below}
 use Rattle.layout.specs.Layout.{imageIn}
@@ -31,12 +32,12 @@ meters-over-spec =
     (λ c. (search needs, tells-none _))
     (λ c κs. search needs)
     (λ c κs. search needs)
-    (λ c. search needs)
-    (λ c. search needs)
+    (λ c. omega arith)
+    (λ c. omega arith)
     (λ c. (search needs, search (needs, meter-more)))
     (λ c. (search needs, search needs, c .before .loop .inv .1))
     (λ c κs. search needs)
-    (λ c. search needs)
-    (λ c. search needs)
+    (λ c. omega arith)
+    (λ c. omega arith)
     (λ c. (search needs, search needs, search (needs, meter-more, not-loaded)))
     (λ c. search (needs, meters-end)))

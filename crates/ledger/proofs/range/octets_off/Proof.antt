@@ -43,7 +43,7 @@ octets-off-spec =
     tie.close
     (tie.spec
     (λ c. search (needs, many))
-    (λ c. search needs)
-    (λ c. search needs)
-    (λ c κs. search needs)
+    (λ c. omega arith)
+    (λ c. omega arith)
+    (λ c κs. tt)
     (λ c. search (needs, few)))

@@ -1,4 +1,5 @@
 -- `ledger::range::out_of_range`: 39's clauses, in the order in which they are asked.
+use native.Mathlib.Omega.{arith}
 use borrow.Author.Needs.{needs}
 use Rattle.laws.specs.Chain.{chain}
 use Rattle.ledger.specs.Above.{as-asked}
@@ -9,11 +10,11 @@ pub out-of-range-spec : {M : Type 1} → statement M
 out-of-range-spec =
     tie.close
     (tie.spec
-    (λ c. search needs)
-    (λ c. search (needs, as-asked, chain) depth 40)
+    (λ c. omega arith)
+    (λ c. search (as-asked, chain) depth 40)
     (λ c κs. search needs)
-    (λ c. search (needs, as-asked, chain) depth 40)
+    (λ c. search (as-asked, chain) depth 40)
+    (λ c κs. tt)
+    (λ c. search (as-asked, chain) depth 40)
     (λ c κs. search needs)
-    (λ c. search (needs, as-asked, chain) depth 40)
-    (λ c κs. search needs)
-    (λ c. search (needs, as-asked, chain) depth 40))
+    (λ c. search (as-asked, chain) depth 40))

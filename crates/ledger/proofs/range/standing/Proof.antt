@@ -1,5 +1,4 @@
 -- `ledger::range::standing`: 31 and 30, then 39.
-use borrow.Author.Needs.{needs}
 use Rattle.laws.specs.Chain.{flags, at-zero, not-zero}
 use Rattle.ledger.specs.Laws.{loaded-as}
 use Rattle.ledger.specs.Range.{standing}
@@ -11,8 +10,8 @@ unfolding standing
 standing-spec =
     tie.close
     (tie.spec
-    (λ c κs. search needs)
-    (λ c. search (needs, not-zero))
-    (λ c κs. search (needs, loaded-as))
-    (λ c. search (needs, at-zero, flags) depth 40)
-    (λ c. search (needs, at-zero, flags) depth 40))
+    (λ c κs. tt)
+    (λ c. search not-zero)
+    (λ c κs. search loaded-as)
+    (λ c. search (at-zero, flags) depth 40)
+    (λ c. search (at-zero, flags) depth 40))

@@ -1,6 +1,7 @@
 -- `ledger::range::units_over`: the top bit is set as soon as a partition has more units than its space.
 use Prim.Native.Nat.{_-_, _≤_}
 use lib.Dec.{ltb}
+use native.Mathlib.Omega.{arith}
 use borrow.Author.Needs.{needs}
 use Rattle.laws.specs.Scan.{some-below}
 use Rattle.layout.specs.Layout.{imageIn}
@@ -24,11 +25,11 @@ units-over-spec =
     μ-loop
     (λ c. (search needs, tells-none _))
     (λ c κs. search needs)
-    (λ c. search needs)
-    (λ c. search needs)
-    (λ c. search needs)
+    (λ c. omega arith)
+    (λ c. omega arith)
+    (λ c. omega arith)
     (λ c κs. search needs)
-    (λ c. search needs)
-    (λ c. search needs)
+    (λ c. omega arith)
+    (λ c. omega arith)
     (λ c. (search needs, search (needs, tells-more, tells-of)))
-    (λ c. search (needs, tells-end)))
+    (λ c. search tells-end))

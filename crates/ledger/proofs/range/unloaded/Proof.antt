@@ -11,7 +11,7 @@ unfolding unloaded
 unloaded-spec =
     tie.close
     (tie.spec
-    (λ c κs. search needs)
+    (λ c κs. tt)
     (λ c. search flags depth 40)
     (λ c κs. search (needs, long-enough))
     (λ c. search flags depth 40)

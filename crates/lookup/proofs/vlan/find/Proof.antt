@@ -2,9 +2,10 @@
 use mathlib.Core.Path.{_≡_, sym, _∙_, ap}
 use mathlib.Core.Bool.{false, true≢false}
 use mathlib.Core.List.{List}
-use Prim.Native.Nat.{ℕ, _+_, _-_, _%_, _<_, _≤_, _^_}
+use Prim.Native.Nat.{ℕ, _+_, _-_, _%_, _<_, _≤_, _^_, zero-le}
 use native.Mathlib.Nat.{mod-lt, mod-eq-of-lt}
 use native.Mathlib.Omega.{arith}
+use lib.Dec.{lit<}
 use lib.Pow.{pow-pos}
 use borrow.Author.Needs.{needs}
 use borrow.Author.Tests.{eq-eqb, ne-eqb}
@@ -47,15 +48,15 @@ find-spec =
     (tie.spec
     Inv-loop
     μ-loop
+    (λ c κs. (c .before .pre .0, lit< tt))
+    (λ c κs. tt)
+    (λ c. (zero-le, first-none _))
+    (λ c. c .loop .inv .0)
     (λ c κs. search needs)
-    (λ c κs. search needs)
-    (λ c. (search needs, first-none _))
     (λ c. search needs)
-    (λ c κs. search needs)
-    (λ c. search needs)
-    (λ c. search needs)
+    (λ c. omega arith)
     loop-again
     (λ c κs. search needs)
-    (λ c. search needs)
+    (λ c. c .find-from .ensures)
     (λ c κs. search needs)
-    (λ c. search needs))
+    (λ c. c .find-from2 .ensures))

@@ -2,6 +2,7 @@
 use mathlib.Core.Path.{_≡_, sym, _∙_}
 use Prim.Native.Nat.{ℕ, _-_, _≤_}
 use native.Mathlib.Omega.{arith}
+use lib.Dec.{lit<}
 use borrow.Author.Needs.{needs}
 use borrow.Author.Tests.{eq-eqb, ne-eqb}
 use denote.Ref.{now}
@@ -47,11 +48,11 @@ find-from-spec =
     (tie.spec
     Inv-loop
     μ-loop
-    (λ c κs. search needs)
+    (λ c κs. (c .before .pre .0 .0, lit< tt))
     (λ c. (omega arith, c .before .before .pre .1 .1))
     (λ c κs. search needs)
     returns
     (λ c. search needs)
-    (λ c. search needs)
+    (λ c. omega arith)
     loop-again
     returns-2)

@@ -1,7 +1,7 @@
 -- `lookup::vlan::none_has`: the top bit is set as long as none of the entries has the VLANID.
 use mathlib.Core.Path.{_≡_, refl, sym, _∙_, ap}
 use mathlib.Core.Bool.{Bool, not}
-use Prim.Native.Nat.{ℕ, _-_, _<_, _≤_, _^_}
+use Prim.Native.Nat.{ℕ, _-_, _<_, _≤_, _^_, zero-le}
 use native.Mathlib.Nat.{le-antisymm, lt-trans, lt-of-lt-of-le}
 use native.Mathlib.Omega.{arith}
 use lib.Dec.{eqb}
@@ -37,11 +37,11 @@ none-has-spec =
     (tie.spec
     Inv-loop
     μ-loop
-    (λ c. (search needs, clear-none _))
+    (λ c. (zero-le, clear-none _))
     (λ c. search needs)
     (λ c κs. search needs)
     (λ c κs. (low (c .short .ensures .1), low (c .before .before .before .before .pre .3)))
     (λ c. search needs)
-    (λ c. search needs)
+    (λ c. omega arith)
     loop-again
     (λ c. let l = c .before .loop in clear-end _ 16 (l .k) (l .all) (le-antisymm (l .inv .0) (c .loop-test .left)) (l .inv .1)))

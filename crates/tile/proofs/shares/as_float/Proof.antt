@@ -12,5 +12,5 @@ as-float-spec =
     (tie.spec
     (λ c. le→leb _ _ (c .before .if1 .taken))
     (λ c. search needs)
-    (λ c κs. search needs)
+    (λ c κs. tt)
     (λ c. search needs))

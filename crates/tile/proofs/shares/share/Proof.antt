@@ -1,5 +1,4 @@
 -- `tile::shares::share`: one division.
-use borrow.Author.Needs.{needs}
 use mathlib.Core.Path.{_≡_, refl, sym, ap, subst, _∙_}
 use lib.Ieee.{Float, binary64, div}
 use Rattle.tile.specs.Tiles.{shareOf}
@@ -11,6 +10,6 @@ unfolding shareOf
 share-spec =
     tie.close
     (tie.spec
-    (λ c κs. search needs)
-    (λ c κs. search needs)
+    (λ c κs. tt)
+    (λ c κs. tt)
     (λ c. ap (λ (x : Float). div binary64 x (c .as-float2 .result)) (c .before .as-float .ensures) ∙ ap (div binary64 _) (c .as-float2 .ensures)))
