@@ -12,7 +12,7 @@ def crc(words):
     return zlib.crc32(struct.pack("<%dI" % len(words), *words))
 
 
-lines = ["byte_in 9 cbf43926"]
+lines = ["bits_out 9 cbf43926"]
 assert zlib.crc32(b"123456789") == 0xCBF43926
 
 made, w = [], 1
@@ -22,7 +22,7 @@ for _ in range(1000):
 
 for words in [made[:n] for n in list(range(21)) + [999, 1000]]:
     alone, after = crc(words), crc([0x9E00030E] + words)
-    for name in ["words_in", "long words_in", "short words_in"]:
+    for name in ["long words_in", "short words_in"]:
         lines.append("%s %d %08x" % (name, len(words), alone))
     for name in ["words_in_both", "long words_in_both", "short words_in_both", "word words_in_both"]:
         lines.append("%s %d %08x %08x" % (name, len(words), alone, after))

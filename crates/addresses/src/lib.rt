@@ -19,15 +19,6 @@ pub fn holds(mask: u64, port: usize) -> bool
     (mask >> port as u64) % 2 == 1
 }
 
-// Is the port in entry i's DESTPORTS?
-fn leads_to(image: &[u32], port: usize, i: usize) -> bool
-    requires { ⌜ Held 0 i (now image) ⌝ }
-    requires { ⌜ port < 64 ⌝ }
-    ensures { λ r. ⌜ r ≡ holds (destports (imageIn (now (image .entry))) i) port ⌝ }
-{
-    holds(image::address::destports(image, i), port)
-}
-
 // Has entry i the address, and the VLAN where VLANs are compared?
 fn matches(image: &[u32], shared: u64, vlan: u64, mac: u64, i: usize) -> bool
     requires { ⌜ Held 0 i (now image) ⌝ }
@@ -52,7 +43,7 @@ fn bars(image: &[u32], shared: u64, port: usize, vlan: u64, mac: u64, i: usize) 
     if image::address::enfport(image, i) == 0 {
         return false;
     }
-    if leads_to(image, port, i) {
+    if holds(image::address::destports(image, i), port) {
         return false;
     }
     matches(image, shared, vlan, mac, i)

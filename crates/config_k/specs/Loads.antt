@@ -13,7 +13,7 @@ use Rattle.layout.specs.Layout.{imageOf}
 use Rattle.tables.specs.Tables.{kindOf}
 use Rattle.image.specs.Fields.{vlanid, index}
 use Rattle.layout.specs.Loaded.{incomplete}
-use Rattle.broken.specs.Broken.{vlanTwice, vlanMissing, sharindxBeyond, spaceOver, indexTwice}
+use Rattle.rules.specs.Broken.{vlanTwice, vlanMissing, sharindxBeyond, spaceOver, indexTwice}
 use Rattle.rules.specs.Rules.{ruled}
 use Rattle.stream.specs.Paper.{Outcome, passed, blocks, framed, refusedWith, outcomeOf, loaded}
 use Rattle.config_k.specs.Stream.{K}

@@ -6,7 +6,7 @@ ghost use Rattle.crc.specs.Crc.{bitsOut, wordsIn};
 ghost use Rattle.crc.specs.Four.{rest};
 ghost use Rattle.crc_table.specs.Table.{IsTable};
 ghost use Rattle.crc_long.specs.Turn.{AreTables};
-use crc::Both;
+use crc_both::Both;
 
 // What a word leaves in the register after the words that follow it in a turn.
 fn look(table: &[u32; 1024], w: u32) -> u32
@@ -84,5 +84,5 @@ pub fn words_in_both(
         );
         i += 4;
     }
-    crc::words_in_both(x, &words[i..])
+    crc_both::words_in_both(x, &words[i..])
 }

@@ -12,7 +12,7 @@ ghost use Prim.Native.Nat.{_/_, _%_, _^_};
 ghost use Rattle.crc.specs.Crc.{bitsOut, wordsIn};
 ghost use Rattle.crc_short_bytes.specs.Twice.{twice};
 ghost use Rattle.crc_short.specs.Turn.{reach};
-use crc::Both;
+use crc_both::Both;
 use crc_short_bytes::byte;
 
 // What five words leave by the tables.
@@ -133,5 +133,5 @@ pub fn words_in_both(both: Both, words: &[u32]) -> Both
         x = turn(x, words[i], words[i + 1], words[i + 2], words[i + 3]);
         i += 4;
     }
-    crc::words_in_both(x, &words[i..])
+    crc_both::words_in_both(x, &words[i..])
 }

@@ -1,6 +1,6 @@
 // Runs every CRC function over outside vectors and prints what each gives. The file stdout holds what other programs compute; vectors.py made it and says how.
 // The checksums that Linux's driver packed are met by loader_vectors, which loads its streams.
-use crc::Both;
+use crc_both::Both;
 use libc::STDOUT_FILENO;
 
 fn print(value: u32) {
@@ -31,10 +31,10 @@ fn run_bytes(bytes: &[u8]) {
     let mut r = crc::START;
     let mut i = 0;
     while i < bytes.len() {
-        r = crc::byte_in(r, bytes[i]);
+        r = crc::bits_out(r ^ (bytes[i] as u32), 8);
         i += 1;
     }
-    print_line(b"byte_in ", bytes.len(), crc::finish(r));
+    print_line(b"bits_out ", bytes.len(), crc::finish(r));
 }
 
 // Words into two registers by the tables of a long run.
@@ -60,14 +60,13 @@ fn one_by_one(both: Both, words: &[u32]) -> Both {
     x
 }
 
-// A run of words into one register, and into two that begin alike.
+// A run of words by tables into two registers that begin alike, of which one is told.
 fn run_one(words: &[u32]) {
     let both = Both {
         block: crc::START,
         stream: crc::START,
     };
     let n = words.len();
-    print_line(b"words_in ", n, crc::checksum(words));
     print_line(
         b"long words_in ",
         n,
@@ -87,7 +86,7 @@ fn run_two(words: &[u32]) {
         stream: crc::word_in(crc::START, 0x9E00_030E),
     };
     let n = words.len();
-    print_both(b"words_in_both ", n, crc::words_in_both(both, words));
+    print_both(b"words_in_both ", n, crc_both::words_in_both(both, words));
     print_both(b"long words_in_both ", n, by_long(both, words));
     print_both(
         b"short words_in_both ",

@@ -4,7 +4,7 @@
 // their own crates.
 ghost use mathlib.Core.Path.{_≡_};
 ghost use Rattle.crc.specs.Crc.{bitsOut, wordIn};
-use crc::Both;
+use crc_both::Both;
 use crc_word_bytes::byte;
 
 // What a word leaves: its bytes from the lowest on, fewer of them still to leave with each.

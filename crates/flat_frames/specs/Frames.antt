@@ -5,8 +5,8 @@ use Prim.Native.Nat.{ℕ}
 use Rattle.ledger.specs.declared.Answer.{Answer}
 use Rattle.ledger.specs.Answers.{numberOf}
 use Rattle.ledger.specs.Range.{unloaded}
-use Rattle.fresh.specs.Fresh.{freshened, Freshened}
-use Rattle.release.specs.Release.{releaseRefusal, released, Released}
+use Rattle.row.specs.Fresh.{freshened, Freshened}
+use Rattle.row.specs.Release.{releaseRefusal, released, Released}
 use Rattle.settle.specs.declared.Verdict.{Verdict}
 use Rattle.judge.specs.Judge.{judgeOf, Judges}
 use Rattle.tile.specs.declared.shares.Asked.{Asked}

@@ -9,7 +9,7 @@ ghost use Rattle.flat_frames.specs.Frames.{FreshensFlat, JudgesFlat, Rel
 pub fn fresh_ledger(image: &[u32], ledger: &mut [u64; CELLS]) -> u32
     ensures { λ r. ⌜ FreshensFlat (now (image .entry)) r (now (ledger .exit)) ⌝ }
 {
-    flat_answers::outcome_number(fresh::fresh_ledger(image, ledger))
+    flat_answers::outcome_number(row::fresh::fresh_ledger(image, ledger))
 }
 
 // A frame that came in at a port at a time in µs.
@@ -29,7 +29,7 @@ pub fn judge(
 pub fn release(image: &[u32], ledger: &mut [u64; CELLS], partition: usize) -> u32
     ensures { λ r. ⌜ ReleasesFlat (now (image .entry)) (now (ledger .entry)) partition r (now (ledger .exit)) ⌝ }
 {
-    flat_answers::outcome_number(release::release(image, ledger, partition))
+    flat_answers::outcome_number(row::release::release(image, ledger, partition))
 }
 
 // What the screen shows of a port.

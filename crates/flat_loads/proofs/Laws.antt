@@ -10,7 +10,7 @@ use lib.Seq.{sets}
 use borrow.Author.Tests.{ltb-false, lt-ltb, eqb-true, not-false}
 use Rattle.laws.specs.Chain.{hit, pass}
 use Rattle.crc.specs.Crc.{wordsIn}
-use Rattle.crc.specs.declared.Both.{Both}
+use Rattle.crc_both.specs.declared.Both.{Both}
 use Rattle.layout.specs.Layout.{imageWords}
 use Rattle.layout.specs.Loaded.{tooShort}
 use Rattle.tables.specs.Tables.{indexOf}
@@ -20,8 +20,8 @@ use Rattle.stream.specs.Paper.{Whole}
 use Rattle.stream.specs.declared.Answer.{Answer}
 use Rattle.stream.specs.declared.Load.{Load}
 use Rattle.one_block.specs.Data.{dataPlace}
-use Rattle.states.specs.Leaves.{Writes, Ends}
-use Rattle.states.specs.declared.Wrote.{Wrote}
+use Rattle.stream.specs.Leaves.{Writes, Ends}
+use Rattle.stream.specs.declared.states.Wrote.{Wrote}
 use Rattle.one_block.proofs.Data.{DataWrite, data-write}
 use Rattle.flat_numbers.specs.Flat.{low, high, joined, phaseOf, tableOf, loadIn, isLoad, numbersOf, storedIn, moved, numberOf}
 use Rattle.flat_states.specs.Round.{joined-halves, put-back, table-kept}

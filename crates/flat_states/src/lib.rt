@@ -1,6 +1,6 @@
 // A load state as the six lent numbers of `flat_numbers`, and back. The conversions stand alone, without a call of the loader's: nothing of a load is
 // needed to see that no number is lost.
-use crc::Both;
+use crc_both::Both;
 use flat_numbers::HALF;
 use flat_numbers::high;
 use flat_numbers::joined;

@@ -1,5 +1,6 @@
 // Word 0, a block's header and the stream's end: what numbers 1 to 6 and 8 are told for, the mark and the rules. The rules are run from here alone.
 use stream::Load;
+use stream::states;
 use tables::Block;
 use tables::Table;
 ghost use mathlib.Core.Path.{_≡_};
@@ -12,7 +13,7 @@ ghost use Rattle.image.specs.Sound.{Within};
 ghost use Rattle.tables.specs.Tables.{kindOf, indexOf};
 ghost use Rattle.stream.specs.Header.{idOf};
 ghost use Rattle.stream.specs.Machine.{hadIn, finish, endedBy, begunBy, summed, startedBy};
-ghost use Rattle.states.specs.Leaves.{Leaves};
+ghost use Rattle.stream.specs.Leaves.{Leaves};
 ghost use Rattle.headers.specs.Header.{headerOf};
 
 // What a block's header comes to: the number 3 to 6 that it is refused with, or its table.
@@ -37,13 +38,13 @@ fn fits(image: &[u32], table: Table, n: usize) -> Header
     requires { ⌜ (imageWords ≤ length (now image)) × Within (imageIn (now image)) × (n < 16777216) ⌝ }
     ensures { λ r. ⌜ r ≡ headerOf (indexOf table) n (hadIn (now (image .entry)) (indexOf table)) ⌝ }
 {
-    let size = tables::size_of(table);
+    let shape = tables::shape_of(table);
+    let size = shape.size;
     if n % size != 0 {
         return Header::Wrong(5);
     }
-    let most = tables::most_of(table);
     let had = layout::count(image, tables::index_of(table));
-    if most < had + n / size {
+    if shape.most < had + n / size {
         return Header::Wrong(6);
     }
     Header::Right(table)
@@ -105,12 +106,6 @@ fn begun(image: &mut [u32], stream: u32, first: u32, n: usize) -> Load
     }
 }
 
-fn wide(x: u32) -> usize
-    ensures { λ r. ⌜ r ≡ x ⌝ }
-{
-    x as usize
-}
-
 // A block's third word.
 pub fn summed(image: &mut [u32], stream: u32, first: u32, second: u32, w: u32) -> Load
     requires { ⌜ (imageWords ≤ length (now image)) × Within (imageIn (now image)) ⌝ }
@@ -123,5 +118,5 @@ pub fn summed(image: &mut [u32], stream: u32, first: u32, second: u32, w: u32) -
     if w != header_sum(first, second) {
         return states::refuse(image, 2);
     }
-    begun(image, crc::word_in(stream, w), first, wide(n))
+    begun(image, crc::word_in(stream, w), first, n as usize)
 }

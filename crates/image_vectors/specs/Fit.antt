@@ -10,8 +10,8 @@ use Rattle.image.specs.Sound.{Within}
 use Rattle.stream.specs.Fine.{Fine, cleared-fine, step-fine}
 use Rattle.stream.specs.Machine.{Machine, at, fresh, cleared, step}
 use Rattle.stream.specs.declared.Load.{Load}
-use Rattle.states.specs.Leaves.{Leaves}
-use Rattle.states.proofs.Laws.{leaves-at}
+use Rattle.stream.specs.Leaves.{Leaves}
+use Rattle.stream.proofs.states.Laws.{leaves-at}
 
 pub record Fit (buffer : List ℕ) : Type 0 where
   pub whole : imageWords ≤ length buffer

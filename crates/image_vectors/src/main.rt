@@ -17,6 +17,7 @@ use libc::STDIN_FILENO;
 use libc::STDOUT_FILENO;
 use stream::Phase;
 use stream::bytes::word_at;
+use stream::states;
 
 fn put(character: u8) {
     let text = [character];

@@ -15,7 +15,7 @@ use Rattle.plan.specs.declared.Planned.the-variants.{Dropped, Goes}
 use Rattle.plan.specs.Laws.{Sane, Follows}
 use Rattle.settle.specs.declared.Verdict.the-variants.{Refused, Drop, Sent}
 use Rattle.settle.specs.Settle.{spentWith, settledBy, settledOf, heldAt, stored, Judged, judged, carriedOut}
-use Rattle.note.specs.Note.{noted}
+use Rattle.settle.specs.Note.{noted}
 use Rattle.judge.specs.Refusal.{refusalOf}
 use Rattle.judge.specs.Judge.{planFor, notedOf, judgeOf}
 use Rattle.judge.specs.Laws.{Admitted, admitted, plan-follows}

@@ -6,16 +6,16 @@ use Prim.Native.Nat.{ℕ}
 use lib.Dec.{eqb}
 use Rattle.layout.specs.Layout.{imageIn}
 use Rattle.frame.specs.Bytes.{octetsOf}
-use Rattle.enter.specs.declared.Entered.{Entered}
-use Rattle.enter.specs.declared.Entered.the-variants as entered
-use Rattle.enter.specs.Enter.{enterOf}
+use Rattle.plan.specs.declared.enter.Entered.{Entered}
+use Rattle.plan.specs.declared.enter.Entered.the-variants as entered
+use Rattle.plan.specs.Enter.{enterOf}
 use Rattle.plan.specs.declared.Planned.{Planned}
 use Rattle.plan.specs.declared.Planned.the-variants.{Dropped}
 use Rattle.plan.specs.Plan.{planOf}
 use Rattle.settle.specs.declared.Verdict.{Verdict}
 use Rattle.settle.specs.declared.Verdict.the-variants.{Refused, Drop, Sent}
 use Rattle.settle.specs.Settle.{Judged, judged, carriedOut}
-use Rattle.note.specs.Note.{isDrop, noted}
+use Rattle.settle.specs.Note.{isDrop, noted}
 use Rattle.judge.specs.Refusal.{refusalOf}
 
 -- document 01's number for each case: the refusal's, the drop's, 0 for sent

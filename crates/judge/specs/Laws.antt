@@ -15,9 +15,9 @@ use Rattle.ledger.specs.Row.{frames, last, many, cell}
 use Rattle.ledger.specs.Range.{latest, standing}
 use Rattle.ledger.specs.Laws.{InRange, Stands, stands}
 use Rattle.frame.specs.Bytes.{octetsOf}
-use Rattle.enter.specs.declared.Entered.{Entered}
-use Rattle.enter.specs.declared.Entered.the-variants as entered
-use Rattle.enter.specs.Enter.{enterOf}
+use Rattle.plan.specs.declared.enter.Entered.{Entered}
+use Rattle.plan.specs.declared.enter.Entered.the-variants as entered
+use Rattle.plan.specs.Enter.{enterOf}
 use Rattle.plan.specs.declared.Course.{Course}
 use Rattle.plan.specs.declared.Planned.{Planned}
 use Rattle.plan.specs.declared.Planned.the-variants.{Dropped, Goes}
@@ -25,9 +25,9 @@ use Rattle.plan.specs.Laws.{Sane, Follows, follows}
 use Rattle.settle.specs.declared.Verdict.{Verdict}
 use Rattle.settle.specs.declared.Verdict.the-variants.{Refused}
 use Rattle.settle.specs.Settle.{Judged, judged, carriedOut, Carries}
-use Rattle.note.specs.Note.{isDrop, noted}
+use Rattle.settle.specs.Note.{isDrop, noted}
 use Rattle.settle.specs.Laws.{Runs, RunsAll}
-use Rattle.note.specs.Laws.{Countable}
+use Rattle.settle.specs.Countable.{Countable}
 use Rattle.judge.specs.Refusal.{mistimed, unjudged, refusalOf}
 use Rattle.judge.specs.Judge.{numberOf, valuesOf, byEntry, planFor, notedOf, judgeOf, Judges}
 

@@ -1,15 +1,15 @@
 // One frame: refused, dropped with the step's number, or sent; the row is lent and left as the verdict leaves it.
-use enter::Entered;
 use ledger::CELLS;
 use ledger::FRAMES;
 use ledger::LAST;
 use ledger::range::LATEST;
 use ledger::range::standing;
-use note::is_drop;
-use note::note;
 use plan::Planned;
+use plan::enter::Entered;
 use settle::Verdict;
 use settle::carry_out;
+use settle::note::is_drop;
+use settle::note::note;
 ghost use mathlib.Core.Path.{_≡_};
 ghost use Prim.Native.Nat.{_<_, _≤_};
 ghost use lib.ListN.{length};
@@ -69,7 +69,7 @@ fn plan_for(image: &[u32], port: usize, frame: &[u8]) -> Planned
     requires { ⌜ port < 5 ⌝ }
     ensures { λ r. ⌜ r ≡ planFor (imageIn (now (image .entry))) port (now (frame .entry)) ⌝ }
 {
-    match enter::enter(image, port, frame) {
+    match plan::enter::enter(image, port, frame) {
         Entered::Dropped(drop) => Planned::Dropped(drop),
         Entered::In {
             vlan,

@@ -5,8 +5,8 @@ use mathlib.Core.List.{List, [], _∷_}
 use Prim.Native.Nat.{ℕ}
 use Rattle.layout.specs.Layout.{imageIn}
 use Rattle.ledger.specs.Range.{outOfRange}
-use Rattle.fresh.specs.Fresh.{freshOf}
-use Rattle.release.specs.Release.{released}
+use Rattle.row.specs.Fresh.{freshOf}
+use Rattle.row.specs.Release.{released}
 use Rattle.judge.specs.Judge.{judgeOf}
 use Rattle.kept.specs.Kept.{Kept, fresh-kept, judge-kept, release-kept, passes-39}
 

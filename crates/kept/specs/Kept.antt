@@ -15,15 +15,15 @@ use Rattle.image.specs.Fields.{partSpc, smax}
 use Rattle.ledger.specs.Row.{units, credit, since, frames, drops, octets, dropped, last, start, many, cellCount, cell, put}
 use Rattle.ledger.specs.Range.{latest, unitsOver, fullOf, creditOver, octetsOff, countsOff, tilesOff, timesOver, outOfRange}
 use Rattle.ledger.specs.Laws.{cells, other-place, Counted, InRange}
-use Rattle.fresh.specs.Fresh.{freshOf}
-use Rattle.release.specs.Release.{releaseRefusal, givenTo, released, Releasable, releasable}
+use Rattle.row.specs.Fresh.{freshOf}
+use Rattle.row.specs.Release.{releaseRefusal, givenTo, released, Releasable, releasable}
 use Rattle.spend.specs.Proved.{now-stored}
 use Rattle.frame.specs.Bytes.{octetsOf}
 use Rattle.plan.specs.declared.Course.{Course}
 use Rattle.plan.specs.Laws.{Sane}
 use Rattle.settle.specs.declared.Held.{Held}
 use Rattle.settle.specs.Settle.{meterOf, settledBy, heldAt, stored, Judged}
-use Rattle.note.specs.Note.{countsAt, noted}
+use Rattle.settle.specs.Note.{countsAt, noted}
 use Rattle.judge.specs.Judge.{judgeOf}
 use Rattle.judge.specs.Laws.{Admitted}
 use Rattle.judge.specs.Cases.{spentAt, rowAfter, by-cases}

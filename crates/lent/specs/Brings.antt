@@ -4,8 +4,8 @@ use mathlib.Core.List.{List, []}
 use Prim.Native.Nat.{ℕ}
 use Rattle.ledger.specs.declared.Answer.{Answer}
 use Rattle.ledger.specs.Answers.{answerOf, numberOf as numberOfAnswer}
-use Rattle.release.specs.Release as release
-use Rattle.release.specs.Release.{releaseRefusal, released}
+use Rattle.row.specs.Release as release
+use Rattle.row.specs.Release.{releaseRefusal, released}
 use Rattle.settle.specs.declared.Verdict.{Verdict}
 use Rattle.judge.specs.Judge.{judgeOf, Judges, numberOf as numberOfVerdict, valuesOf as valuesOfVerdict}
 use Rattle.lent.specs.declared.Event.{Event}

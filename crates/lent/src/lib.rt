@@ -2,7 +2,7 @@
 use judge::judge;
 use ledger::Answer;
 use ledger::Ledger;
-use release::release;
+use row::release::release;
 use settle::Verdict;
 ghost use Rattle.lent.specs.Brings.{Brings};
 

@@ -1,11 +1,13 @@
 // A write, word by word: what the program loads with. No table of checksums stands below it, so that the program proves none; `quick` has the same write by tables.
-use states::Wrote;
+use placing::refusal;
 use stream::Answer;
 use stream::Load;
 use stream::Phase;
+use stream::states;
+use stream::states::Wrote;
 ghost use Rattle.stream.specs.Fine.{Fine};
 ghost use Rattle.stream.specs.Machine.{at, step, run};
-ghost use Rattle.states.specs.Leaves.{Leaves, Writes};
+ghost use Rattle.stream.specs.Leaves.{Leaves, Writes};
 
 // One word.
 pub fn step(image: &mut [u32], load: Load, w: u32) -> Load

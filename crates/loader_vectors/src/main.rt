@@ -1,12 +1,14 @@
 // Loads each stream of standard input in every way and prints what each answers and leaves. The files stdin and stdout were made from the independent second
 // program alone: tests/cases/src/bin/loader_vectors.rs made them and says how.
 ghost use Prim.Native.Nat.{_<_, _≤_};
+use crc_both::Both;
 use libc::STDIN_FILENO;
 use libc::STDOUT_FILENO;
-use states::Wrote;
 use stream::Answer;
 use stream::Load;
 use stream::bytes::word_at;
+use stream::states;
+use stream::states::Wrote;
 
 // What the buffer holds before a load, in each word.
 const FOUND: u32 = 0xA5A5_A5A5;
@@ -25,7 +27,12 @@ fn report(way: &[u8], answer: Answer, buffer: &[u32]) {
     io::write_all(STDOUT_FILENO, way);
     print_answer(answer);
     io::write_all(STDOUT_FILENO, b" ");
-    io::print_hex(STDOUT_FILENO, crc::checksum(buffer) as u64, 8);
+    let from_start = Both {
+        block: crc::START,
+        stream: crc::START,
+    };
+    let sum = crc::finish(crc_both::words_in_both(from_start, buffer).block);
+    io::print_hex(STDOUT_FILENO, sum as u64, 8);
 }
 
 fn by_bytes(bytes: &[u8]) {

@@ -23,8 +23,8 @@ use Rattle.stream.specs.declared.Load.{Load}
 use Rattle.stream.specs.declared.Phase.{Phase}
 use Rattle.stream.specs.declared.Phase.the-variants.{Data}
 use Rattle.one_block.specs.Data.{dataPlace}
-use Rattle.refusal.proofs.Writes.{wrote-run, opened-begun}
-use Rattle.refusal.proofs.Laws.{some-word}
+use Rattle.placing.proofs.refusal.Writes.{wrote-run, opened-begun}
+use Rattle.placing.proofs.refusal.Laws.{some-word}
 use Rattle.one_block.proofs.Laws.{data-run}
 
 -- ---- a place in the image: each test has failed

@@ -1,7 +1,9 @@
 // Data of one block alone: where the words of a write go that brings nothing else, the copy of them, and the load state after them. Only loads from C
 // and Rust take data so.
-use crc::Both;
+use crc_both::Both;
+use placing::refusal;
 use stream::Load;
+use stream::states;
 use tables::Table;
 ghost use mathlib.Core.Path.{_≡_};
 ghost use Prim.Native.Nat.{_+_, _<_, _≤_};
@@ -13,7 +15,7 @@ ghost use Rattle.crc.specs.Crc.{wordsIn};
 ghost use Rattle.stream.specs.Fine.{Roomy};
 ghost use Rattle.stream.specs.Machine.{at, run};
 ghost use Rattle.stream.specs.declared.Phase.the-variants.{Data};
-ghost use Rattle.states.specs.Leaves.{Leaves};
+ghost use Rattle.stream.specs.Leaves.{Leaves};
 ghost use Rattle.one_block.specs.Data.{dataPlace};
 
 // Where a write's n words go inside a block, where they are data of this block alone and no test refuses them; else behind the image.

@@ -1,2 +1,3 @@
 -- Where a block's data go.
 pub mod Places
+pub mod Refusal

@@ -1,5 +1,8 @@
 // Where a block's data go, and what they come to: 7 and a table's count.
+pub mod refusal;
+
 use stream::Load;
+use stream::states;
 use tables::Table;
 ghost use mathlib.Core.Path.{_≡_};
 ghost use Prim.Native.Nat.{_+_, _*_, _/_, _≤_};
@@ -11,7 +14,7 @@ ghost use Rattle.tables.specs.Tables.{indexOf};
 ghost use Rattle.stream.specs.Fine.{Roomy};
 ghost use Rattle.stream.specs.Machine.{hadIn, placeIn, filled};
 ghost use Rattle.stream.specs.declared.Phase.the-variants.{Data};
-ghost use Rattle.states.specs.Leaves.{Leaves};
+ghost use Rattle.stream.specs.Leaves.{Leaves};
 ghost use Rattle.placing.specs.Places.{RoomOf};
 
 // Where a table's next entry goes, and the words that the table has left from there on.
@@ -48,7 +51,7 @@ fn raised(image: &[u32], table: Table, placed: usize) -> u32
     requires { ⌜ hadIn (now image) (indexOf table) * sizeOf (indexOf table) + placed ≤ mostOf (indexOf table) * sizeOf (indexOf table) ⌝ }
     ensures { λ r. ⌜ r ≡ hadIn (now (image .entry)) (indexOf table) + placed / sizeOf (indexOf table) ⌝ }
 {
-    let size = tables::size_of(table);
+    let size = tables::shape_of(table).size;
     let had = layout::count(image, tables::index_of(table));
     (had + placed / size) as u32
 }

@@ -3,3 +3,7 @@ pub mod Police
 pub mod Plan
 pub mod Laws
 pub mod Proved
+pub mod Steps
+pub mod Enter
+pub mod EnterLaws
+pub mod EnterProved

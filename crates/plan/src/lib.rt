@@ -1,5 +1,7 @@
 // Steps 7 and 8, and what steps 9 to 11 need of a frame that passes them: its meter, its partition, and the sending if it comes to that.
 // They read the image and the frame only, and can be run with any VLAN, place and priority.
+pub mod enter;
+
 use ports::Sending;
 ghost use mathlib.Core.Path.{_≡_};
 ghost use Prim.Native.Nat.{_+_, _<_, _≤_};
@@ -7,7 +9,7 @@ ghost use lib.Dec.{leb};
 ghost use lib.ListN.{length};
 ghost use Rattle.layout.specs.Layout.{imageIn, countOf};
 ghost use Rattle.image.specs.Sound.{Sound};
-ghost use Rattle.enter.specs.Laws.{LetIn};
+ghost use Rattle.plan.specs.EnterLaws.{LetIn};
 ghost use Rattle.plan.specs.Police.{policerOf, meteredBy, policedBy, policedOf};
 ghost use Rattle.plan.specs.Plan.{byPolicer, planOf};
 ghost use Rattle.plan.specs.Laws.{Loaded};
@@ -45,20 +47,12 @@ fn policer_of(port: usize, priority: u64, destination: u64) -> usize
     8 * port + priority as usize
 }
 
-// Is policing entry k not loaded?
-fn unloaded(image: &[u32], k: usize) -> bool
-    requires { ⌜ Sound (now image) ⌝ }
-    ensures { λ r. ⌜ r ≡ leb (countOf (imageIn (now (image .entry))) 1) k ⌝ }
-{
-    layout::count(image, 1) <= k
-}
-
 fn metered(image: &[u32], policer: usize, meter: usize, octets: u64) -> Policed
     requires { ⌜ Sound (now image) ⌝ }
     requires { ⌜ policer < countOf (imageIn (now image)) 1 ⌝ }
     ensures { λ r. ⌜ r ≡ meteredBy (imageIn (now (image .entry))) policer meter octets ⌝ }
 {
-    if unloaded(image, meter) {
+    if layout::count(image, 1) <= meter {
         return Policed::Unmetered;
     }
     if image::policing::maxlen(image, policer) < octets {
@@ -71,20 +65,11 @@ fn policed_by(image: &[u32], policer: usize, octets: u64) -> Policed
     requires { ⌜ Sound (now image) ⌝ }
     ensures { λ r. ⌜ r ≡ policedBy (imageIn (now (image .entry))) policer octets ⌝ }
 {
-    if unloaded(image, policer) {
+    if layout::count(image, 1) <= policer {
         return Policed::Unmetered;
     }
     let meter = image::policing::sharindx(image, policer) as usize;
     metered(image, policer, meter, octets)
-}
-
-// Steps 7 and 8.
-fn police(image: &[u32], port: usize, priority: u64, destination: u64, octets: u64) -> Policed
-    requires { ⌜ Sound (now image) ⌝ }
-    requires { ⌜ (port < 5) × (priority < 8) ⌝ }
-    ensures { λ r. ⌜ r ≡ policedOf (imageIn (now (image .entry))) port priority destination octets ⌝ }
-{
-    policed_by(image, policer_of(port, priority, destination), octets)
 }
 
 fn by_policer(
@@ -134,6 +119,7 @@ pub fn plan(
 {
     let destination = frame::mac_at(frame, 0);
     let octets = frame.len() as u64 + 4;
-    let policed = police(image, port, priority, destination, octets);
+    let policer = policer_of(port, priority, destination);
+    let policed = policed_by(image, policer, octets);
     by_policer(image, port, destination, vlan, place, priority, policed)
 }

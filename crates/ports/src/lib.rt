@@ -4,7 +4,7 @@ ghost use Prim.Native.Nat.{_+_, _<_, _≤_};
 ghost use lib.Bits.{bitAnd};
 ghost use Rattle.layout.specs.Layout.{imageIn, countOf};
 ghost use Rattle.image.specs.Sound.{Sound};
-ghost use Rattle.ports.specs.Ports.{towards, wantedOf, maskOf, egressPorts, others, portsOf, queueOf, sendingAt, sendingOf};
+ghost use Rattle.ports.specs.Ports.{towards, wantedOf, maskOf, egressPorts, others, portsOf, queueOf, sendingOf};
 
 // What a sent frame gets: masks of ports with port 0 the lowest bit, and a queue for each of the five ports, 0 where it is not sent.
 pub struct Sending {
@@ -114,24 +114,6 @@ fn queue(image: &[u32], ports: u64, q: u64, e: usize) -> u64
     0
 }
 
-fn send_at(image: &[u32], ports: u64, vlan: u64, q: u64, entry: usize) -> Sending
-    requires { ⌜ Sound (now image) ⌝ }
-    requires { ⌜ (q < 8) × (entry < countOf (imageIn (now image)) 2) ⌝ }
-    ensures { λ r. ⌜ r ≡ sendingAt (imageIn (now (image .entry))) ports vlan q entry ⌝ }
-{
-    Sending {
-        ports,
-        vlan,
-        priority: q,
-        tags: ports & image::vlan::tag_port(image, entry),
-        queue0: queue(image, ports, q, 0),
-        queue1: queue(image, ports, q, 1),
-        queue2: queue(image, ports, q, 2),
-        queue3: queue(image, ports, q, 3),
-        queue4: queue(image, ports, q, 4),
-    }
-}
-
 // What a frame that is sent to these ports gets.
 pub fn send(
     image: &[u32],
@@ -146,5 +128,15 @@ pub fn send(
     ensures { λ r. ⌜ r ≡ sendingOf (imageIn (now (image .entry))) port ports vlan priority entry ⌝ }
 {
     let q = image::forwarding::vlan_pmap(image, port, priority as usize);
-    send_at(image, ports, vlan, q, entry)
+    Sending {
+        ports,
+        vlan,
+        priority: q,
+        tags: ports & image::vlan::tag_port(image, entry),
+        queue0: queue(image, ports, q, 0),
+        queue1: queue(image, ports, q, 1),
+        queue2: queue(image, ports, q, 2),
+        queue3: queue(image, ports, q, 3),
+        queue4: queue(image, ports, q, 4),
+    }
 }

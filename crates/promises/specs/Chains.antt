@@ -9,9 +9,9 @@ use Rattle.stream.specs.declared.Load.{Load}
 use Rattle.stream.specs.Paper.{passed, ended, framed, numbered}
 use Rattle.stream.specs.Machine.{Written, wrote}
 use Rattle.stream.specs.Cutting.{writes, unwritten, words, Cuts}
-use Rattle.states.specs.declared.Wrote.{Wrote}
-use Rattle.states.specs.Leaves.{Writes}
-use Rattle.fresh.specs.Fresh.{freshOf}
+use Rattle.stream.specs.declared.states.Wrote.{Wrote}
+use Rattle.stream.specs.Leaves.{Writes}
+use Rattle.row.specs.Fresh.{freshOf}
 use Rattle.kept.specs.History.{Event}
 use Rattle.promises.specs.Demand3.{Night, night, same-answer-and-image, same-verdicts-and-tiles}
 

@@ -15,10 +15,10 @@ use Rattle.stream.specs.Paper.{Framed, refused, cut, passed, outcomeOf, framed,
 use Rattle.stream.specs.Machine.{wrote, untouched, damaged, outside}
 use Rattle.stream.specs.declared.Load.{Load}
 use Rattle.ledger.specs.Range.{outOfRange, unloaded, standing}
-use Rattle.fresh.specs.Fresh.{freshOf, noLedger, freshened, Freshened, refused-everywhere}
+use Rattle.row.specs.Fresh.{freshOf, noLedger, freshened, Freshened, refused-everywhere}
 use Rattle.ledger.specs.declared.Answer.{Answer}
 use Rattle.ledger.specs.declared.Answer.the-variants as answer
-use Rattle.release.specs.Release.{releaseRefusal, givenTo, released, Released}
+use Rattle.row.specs.Release.{releaseRefusal, givenTo, released, Released}
 use Rattle.tile.specs.declared.shares.Tile.the-variants.{NotLoaded}
 use Rattle.tile.specs.declared.shares.Asked.the-variants.{Shown}
 use Rattle.tile.specs.Tiles.{askedOf}

@@ -12,8 +12,8 @@ use Rattle.layout.specs.Layout.{imageIn}
 use Rattle.ledger.specs.Row.{frames, drops, octets, dropped, last, start, many, cellCount}
 use Rattle.ledger.specs.Range.{outOfRange}
 use Rattle.ledger.specs.Laws.{cells, other-place}
-use Rattle.fresh.specs.Fresh.{freshOf}
-use Rattle.release.specs.Release.{releaseRefusal, givenTo, released, releasable}
+use Rattle.row.specs.Fresh.{freshOf}
+use Rattle.row.specs.Release.{releaseRefusal, givenTo, released, releasable}
 use Rattle.spend.specs.declared.Counts.{Counts}
 use Rattle.spend.specs.Spend.{countedOf}
 use Rattle.frame.specs.Bytes.{octetsOf}
@@ -22,8 +22,8 @@ use Rattle.plan.specs.Laws.{Sane}
 use Rattle.settle.specs.declared.Verdict.{Verdict}
 use Rattle.settle.specs.declared.Verdict.the-variants.{Refused, Drop, Sent}
 use Rattle.settle.specs.Settle.{Judged}
-use Rattle.note.specs.Note.{countsAt, noted}
-use Rattle.note.specs.Laws.{counts-kept}
+use Rattle.settle.specs.Note.{countsAt, noted}
+use Rattle.settle.specs.Countable.{counts-kept}
 use Rattle.judge.specs.Judge.{judgeOf}
 use Rattle.judge.specs.Laws.{Admitted, runs}
 use Rattle.judge.specs.Cases.{rowAfter, by-cases}

@@ -23,9 +23,9 @@ use Rattle.tables.specs.Rows.{rowOf, room}
 use Rattle.stream.specs.Machine.{written}
 use Rattle.ledger.specs.declared.Answer.{Answer}
 use Rattle.ledger.specs.Answers.{answerOf}
-use Rattle.fresh.specs.Fresh.{freshOf}
-use Rattle.release.specs.Release.{releaseRefusal}
-use Rattle.release.specs.Proved.{same-refusal, same-release}
+use Rattle.row.specs.Fresh.{freshOf}
+use Rattle.row.specs.Release.{releaseRefusal}
+use Rattle.row.specs.Proved.{same-refusal, same-release}
 use Rattle.settle.specs.declared.Verdict.{Verdict}
 use Rattle.settle.specs.Settle.{Judged}
 use Rattle.judge.specs.Judge.{judgeOf}

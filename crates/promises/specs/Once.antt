@@ -5,12 +5,12 @@ use Prim.Native.Nat.{ℕ}
 use Rattle.stream.specs.Paper.{loadedWords, loadedBytes}
 use Rattle.stream.specs.declared.Answer.{Answer}
 use Rattle.stream.specs.declared.Load.{Load}
-use Rattle.states.specs.Leaves.{Writes, Ends}
-use Rattle.states.specs.declared.Wrote.{Wrote}
+use Rattle.stream.specs.Leaves.{Writes, Ends}
+use Rattle.stream.specs.declared.states.Wrote.{Wrote}
 use Rattle.ledger.specs.declared.Answer as ledger
-use Rattle.fresh.specs.Fresh.{Freshened, one-fresh}
-use Rattle.release.specs.Release.{Released}
-use Rattle.release.specs.Proved.{one-release}
+use Rattle.row.specs.Fresh.{Freshened, one-fresh}
+use Rattle.row.specs.Release.{Released}
+use Rattle.row.specs.Proved.{one-release}
 use Rattle.settle.specs.declared.Verdict.{Verdict}
 use Rattle.judge.specs.Judge.{Judges}
 use Rattle.judge.specs.Laws.{one-judgement}

@@ -9,8 +9,8 @@ use Rattle.tables.specs.Tables.{kindOf}
 use Rattle.image.specs.Proved.{Packed, row-a, row-b}
 use Rattle.stream.specs.Header.{wrong}
 use Rattle.stream.specs.Proved.{row-c, row-d, row-e}
-use Rattle.broken.specs.Broken.{spaceOver}
-use Rattle.broken.specs.Proved.{row-f, row-g}
+use Rattle.rules.specs.Broken.{spaceOver}
+use Rattle.rules.specs.Proved.{row-f, row-g}
 use Rattle.spend.specs.Meter.{refilled, cost}
 use Rattle.spend.specs.Proved.{row-h, row-i, row-j}
 use Rattle.image.specs.Fields.{partSpc, ingress}

@@ -14,8 +14,8 @@ use Rattle.layout.specs.Layout.{imageIn}
 use Rattle.image.specs.Fields.{partSpc}
 use Rattle.ledger.specs.Row.{units, many, cellCount, cell, put}
 use Rattle.ledger.specs.Laws.{cells, other-place}
-use Rattle.fresh.specs.Fresh.{freshOf}
-use Rattle.release.specs.Release.{releaseRefusal, givenTo, released, releasable}
+use Rattle.row.specs.Fresh.{freshOf}
+use Rattle.row.specs.Release.{releaseRefusal, givenTo, released, releasable}
 use Rattle.spend.specs.declared.Meter.{Meter}
 use Rattle.spend.specs.declared.Spent.{Spent}
 use Rattle.spend.specs.Meter.{cost}
@@ -28,8 +28,8 @@ use Rattle.plan.specs.Laws.{Sane}
 use Rattle.settle.specs.declared.Verdict.{Verdict}
 use Rattle.settle.specs.declared.Verdict.the-variants.{Refused, Drop, Sent}
 use Rattle.settle.specs.Settle.{meterOf, heldAt, Judged}
-use Rattle.note.specs.Note.{noted}
-use Rattle.note.specs.Proved.{units-kept}
+use Rattle.settle.specs.Note.{noted}
+use Rattle.settle.specs.Noted.{units-kept}
 use Rattle.judge.specs.Judge.{planFor, judgeOf}
 use Rattle.judge.specs.Laws.{Admitted, runs}
 use Rattle.judge.specs.Cases.{spentAt, rowAfter, by-cases}

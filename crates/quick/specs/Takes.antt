@@ -4,7 +4,7 @@ use mathlib.Core.List.{List}
 use lib.ListN.{length, take}
 use Rattle.stream.specs.Machine.{at, run}
 use Rattle.stream.specs.declared.Load.{Load}
-use Rattle.states.specs.Leaves.{Leaves}
+use Rattle.stream.specs.Leaves.{Leaves}
 use Rattle.quick.specs.declared.Took.{Took}
 
 -- some words were taken, one at least, and what is left is the machine's run over them

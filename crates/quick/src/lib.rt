@@ -1,9 +1,11 @@
 // The same write, with the data words that are due at once, by the short tables: what C is given. It stands apart from `loader`, since the program does without those tables.
-use crc::Both;
-use states::Wrote;
+use crc_both::Both;
+use placing::refusal;
 use stream::Answer;
 use stream::Load;
 use stream::Phase;
+use stream::states;
+use stream::states::Wrote;
 ghost use mathlib.Core.Path.{_≡_};
 ghost use Prim.Native.Nat.{_<_, _≤_};
 ghost use lib.ListN.{length};
@@ -11,7 +13,7 @@ ghost use Rattle.layout.specs.Layout.{imageWords};
 ghost use Rattle.stream.specs.Fine.{Roomy, Fine};
 ghost use Rattle.stream.specs.Machine.{at, run};
 ghost use Rattle.stream.specs.declared.Phase.the-variants.{Data};
-ghost use Rattle.states.specs.Leaves.{Leaves, Writes};
+ghost use Rattle.stream.specs.Leaves.{Leaves, Writes};
 ghost use Rattle.quick.specs.Takes.{Takes};
 
 // A run of data words, no more than are due, by the short tables.

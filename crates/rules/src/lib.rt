@@ -1,8 +1,10 @@
 // The order of the loading rules, and the first one broken.
-use broken::index_twice;
-use broken::sharindx_beyond;
-use broken::space_over;
-use broken::vlans_broken;
+pub mod broken;
+
+use crate::broken::index_twice;
+use crate::broken::sharindx_beyond;
+use crate::broken::space_over;
+use crate::broken::vlans_broken;
 ghost use mathlib.Core.Path.{_≡_};
 ghost use lib.ListN.{drop};
 ghost use Rattle.layout.specs.Layout.{imageIn, countOf};

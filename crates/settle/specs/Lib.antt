@@ -2,3 +2,6 @@
 pub mod Settle
 pub mod Laws
 pub mod Proved
+pub mod Note
+pub mod Countable
+pub mod Noted

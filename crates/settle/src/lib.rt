@@ -1,5 +1,7 @@
-// Steps 9 to 11: on the few numbers that a course concerns, and on the row, of which those are loaded and stored. What is noted of a frame is
-// not here (`note`).
+// Steps 9 to 11: on the few numbers that a course concerns, and on the row, of which those are loaded and stored. What is noted of a frame
+// stands in `note`.
+pub mod note;
+
 use ledger::CELLS;
 use ledger::CREDIT;
 use ledger::SINCE;
@@ -72,22 +74,23 @@ fn run(row: &mut [u64; CELLS], course: Course, time: u64, octets: u64) -> Verdic
     requires { ⌜ octets < 65536 ⌝ }
     ensures { λ r. ⌜ Carries (now (row .entry)) time octets (Goes course) r (now (row .exit)) ⌝ }
 {
-    let meter = course.meter;
-    let partition = course.partition;
+    let credit = CREDIT + course.meter;
+    let since = SINCE + course.meter;
+    let units = UNITS + course.partition;
     let s = settle(
         course,
         Held {
-            credit: row[CREDIT + meter],
-            since: row[SINCE + meter],
-            units: row[UNITS + partition],
+            credit: row[credit],
+            since: row[since],
+            units: row[units],
         },
         time,
         octets,
     );
     let after = s.held;
-    row[UNITS + partition] = after.units;
-    row[CREDIT + meter] = after.credit;
-    row[SINCE + meter] = after.since;
+    row[units] = after.units;
+    row[credit] = after.credit;
+    row[since] = after.since;
     s.verdict
 }
 

@@ -12,3 +12,4 @@ pub mod Cutting
 pub mod Order
 pub mod Proved
 pub mod Bytes
+pub mod Leaves

@@ -1,5 +1,6 @@
 // What loading is: the types of a load's state and answer. Their meaning stands in specs/, in the paper's form and in the machine's, with the bridge between them.
 pub mod bytes;
+pub mod states;
 
 use tables::Table;
 

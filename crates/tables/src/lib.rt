@@ -108,17 +108,3 @@ pub fn shape_of(t: Table) -> Shape
         Table::XmiiModeParameters => row(11429, 1, 1),
     }
 }
-
-// The words of an entry.
-pub fn size_of(t: Table) -> usize
-    ensures { λ r. ⌜ (r ≡ sizeOf (indexOf t)) × (0 < r) × (r < 11) ⌝ }
-{
-    shape_of(t).size
-}
-
-// The most entries that a table takes.
-pub fn most_of(t: Table) -> usize
-    ensures { λ r. ⌜ (r ≡ mostOf (indexOf t)) × (r < 4097) ⌝ }
-{
-    shape_of(t).most
-}

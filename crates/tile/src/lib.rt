@@ -6,23 +6,9 @@ use ledger::FRAMES;
 use ledger::OCTETS;
 use shares::Asked;
 use shares::Tile;
-ghost use mathlib.Core.Path.{_≡_};
-ghost use Prim.Native.Nat.{_<_};
-ghost use Rattle.tile.specs.Tiles.{tileAt, askedOf, Tiled};
+ghost use Rattle.tile.specs.Tiles.{Tiled};
 
 pub mod shares;
-
-fn tile_at(row: &[u64; CELLS], port: usize) -> Tile
-    requires { ⌜ port < 5 ⌝ }
-    ensures { λ r. ⌜ r ≡ tileAt (now (row .entry)) port ⌝ }
-{
-    shares::tile_of(
-        row[FRAMES + port],
-        row[DROPS + port],
-        row[OCTETS + port],
-        row[DROPPED + port],
-    )
-}
 
 // What the screen shows of a port. It changes nothing.
 pub fn tile(image: &[u32], row: &[u64; CELLS], port: usize) -> Asked
@@ -40,5 +26,10 @@ pub fn tile(image: &[u32], row: &[u64; CELLS], port: usize) -> Asked
     if ledger::range::out_of_range(image, row) {
         return Asked::Refused(39);
     }
-    Asked::Shown(tile_at(row, port))
+    Asked::Shown(shares::tile_of(
+        row[FRAMES + port],
+        row[DROPS + port],
+        row[OCTETS + port],
+        row[DROPPED + port],
+    ))
 }

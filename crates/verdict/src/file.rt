@@ -1,8 +1,8 @@
 // The stream's file: counted first, then sent in writes.
-use states::Wrote;
 use stream::Answer;
-use stream::Load;
 use stream::bytes::word_at;
+use stream::states;
+use stream::states::Wrote;
 
 // What counting a file's bytes came to.
 enum Counted {
@@ -32,49 +32,26 @@ fn count_bytes(fd: i32) -> Counted {
     Counted::PastBudget
 }
 
-// The words of these bytes, a word a write. An answer that was told is repeated, so the last one counts.
-fn send_words(image: &mut [u32], load: Load, bytes: &[u8]) -> Wrote {
+// More bytes than a stream can need before it is answered: 32,182 words.
+const MOST: usize = 131072;
+
+// What is left of a file, a word a write. An answer that was told is repeated, so the last one counts.
+fn send(fd: i32, image: &mut [u32]) -> Answer {
+    let mut bytes = [0u8; MOST];
+    let n = io::read_full(fd, &mut bytes);
     let mut wrote = Wrote {
-        load,
+        load: states::fresh(),
         answer: Answer::More,
     };
     let mut at: usize = 0;
-    while 4 <= bytes.len() - at {
-        wrote = loader::write(image, wrote.load, &[word_at(bytes, at)]);
+    while 4 <= n - at {
+        wrote = loader::write(image, wrote.load, &[word_at(&bytes, at)]);
         at += 4;
     }
-    wrote
+    wrote.answer
 }
 
-// What is left of a file, part by part, until the answer is another than "more" or the file ends, which is 10. Every stream is answered within
-// 32,182 words, so the turns are never used up.
-fn send(fd: i32, image: &mut [u32]) -> u32 {
-    let mut load = states::fresh();
-    let mut turns: u32 = 1024;
-    while 0 < turns {
-        let mut bytes = io::large_buffer();
-        let n = io::read_full(fd, &mut bytes);
-        if n < 4 {
-            return 10;
-        }
-        let wrote = send_words(image, load, &bytes[..n]);
-        let answer = wrote.answer;
-        match answer {
-            Answer::More => {}
-            Answer::Loaded => {
-                return 0;
-            }
-            Answer::Refused(number) => {
-                return number;
-            }
-        }
-        load = wrote.load;
-        turns -= 1;
-    }
-    10
-}
-
-// The number of a stream's file: 10 where it cannot be opened or read, then 9, then 10 where it is empty, then the writes' answer.
+// The number of a stream's file: 10 where it cannot be opened or read, then 9, then 10 where it is empty or its words end at "more", or the writes' answer.
 pub fn load(path: &[u8], image: &mut [u32]) -> u32 {
     let first = os::open_read(path);
     if first < 0 {
@@ -100,7 +77,11 @@ pub fn load(path: &[u8], image: &mut [u32]) -> u32 {
     if second < 0 {
         return 10;
     }
-    let number = send(second, image);
+    let answer = send(second, image);
     libc::close(second);
-    number
+    match answer {
+        Answer::More => 10,
+        Answer::Loaded => 0,
+        Answer::Refused(number) => number,
+    }
 }

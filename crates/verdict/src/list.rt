@@ -3,6 +3,8 @@ use crate::print;
 use ledger::CELLS;
 use records::Record;
 use records::Refusal;
+use row::fresh::fresh_ledger;
+use row::release::release;
 ghost use Rattle.io.specs.Counts.{Counts};
 
 // One byte more than the most bytes, so that a list that is too long shows.
@@ -57,7 +59,7 @@ fn records_of(image: &[u32], list: &[u8], row: &mut [u64; CELLS], broken: bool) 
                 at = next;
             }
             Record::Release { partition, next } => {
-                print::released(record, release::release(image, row, partition));
+                print::released(record, release(image, row, partition));
                 at = next;
             }
             Record::End => {
@@ -83,7 +85,7 @@ pub fn walk(image: &[u32]) {
         return;
     }
     let mut cells = [0u64; CELLS];
-    fresh::fresh_ledger(image, &mut cells);
+    fresh_ledger(image, &mut cells);
     records_of(image, &list[..count], &mut cells, filled.broken);
     print::tiles(image, &cells);
 }

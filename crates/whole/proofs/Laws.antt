@@ -15,7 +15,7 @@ use Rattle.stream.specs.Ends.{settledIn, settled, whole}
 use Rattle.stream.specs.declared.Answer.{Answer}
 use Rattle.stream.specs.declared.Phase.{Phase}
 use Rattle.stream.specs.declared.Load.{Load}
-use Rattle.states.specs.Leaves.{Ends}
+use Rattle.stream.specs.Leaves.{Ends}
 use Rattle.stream.specs.Runs.{run-append}
 
 -- ---- a whole load of words

@@ -1,9 +1,10 @@
 // Whole loads, of words and of bytes. The long tables are made for them alone, so they stand apart from the writes.
-use crc::Both;
+use crc_both::Both;
 use quick::Took;
 use stream::Answer;
 use stream::Load;
 use stream::Phase;
+use stream::states;
 ghost use mathlib.Core.Path.{_≡_};
 ghost use Prim.Native.Nat.{_+_, _<_, _≤_};
 ghost use lib.ListN.{length};
@@ -14,7 +15,7 @@ ghost use Rattle.stream.specs.Fine.{Roomy, Fine};
 ghost use Rattle.stream.specs.Machine.{at, fresh, cleared, run};
 ghost use Rattle.stream.specs.Paper.{loadedWords, wordsOf, loadedBytes};
 ghost use Rattle.stream.specs.declared.Phase.the-variants.{Data};
-ghost use Rattle.states.specs.Leaves.{Leaves, Ends};
+ghost use Rattle.stream.specs.Leaves.{Leaves, Ends};
 ghost use Rattle.quick.specs.Takes.{Takes};
 
 // A run of data words, no more than are due, by the long tables.

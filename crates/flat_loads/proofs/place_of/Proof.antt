@@ -1,7 +1,7 @@
 -- `flat_loads::place_of`: its tests in the definition's order, then the block's.
 use borrow.Author.Needs.{needs}
 use Rattle.laws.specs.Chain.{hit, pass, hit-ne, pass-ne, hit-lt, pass-lt}
-use Rattle.refusal.proofs.Laws.{has-room}
+use Rattle.placing.proofs.refusal.Laws.{has-room}
 use Rattle.flat_loads.specs.Data.{flatPlace}
 use Rattle.flat_loads.proofs.Laws.{place-by}
 use Rattle.flat_loads.proofs.place_of.Statement.{statement}

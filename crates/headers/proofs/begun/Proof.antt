@@ -2,7 +2,7 @@
 use mathlib.Core.Path.{refl}
 use borrow.Author.Needs.{needs}
 use denote.Ref.{now}
-use Rattle.states.proofs.Laws.{so}
+use Rattle.stream.proofs.states.Laws.{so}
 use Rattle.headers.proofs.Laws.{begun-wrong, begun-right}
 use Rattle.headers.proofs.begun.Statement.{statement}
 use Rattle.headers.proofs.begun.Tie as tie

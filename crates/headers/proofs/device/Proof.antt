@@ -2,7 +2,7 @@
 use mathlib.Core.Path.{refl, _∙_, ap}
 use borrow.Author.Needs.{needs}
 use denote.Ref.{now}
-use Rattle.states.proofs.Laws.{so}
+use Rattle.stream.proofs.states.Laws.{so}
 use Rattle.laws.specs.Chain.{hit-ne, pass-ne}
 use Rattle.stream.specs.Machine.{at, idle}
 use Prim.Native.Nat.{ℕ}

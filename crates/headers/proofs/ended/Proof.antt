@@ -1,7 +1,7 @@
 -- `headers::ended`: 8, or the end.
 use borrow.Author.Needs.{needs}
 use denote.Ref.{now}
-use Rattle.states.proofs.Laws.{so}
+use Rattle.stream.proofs.states.Laws.{so}
 use Rattle.headers.proofs.Laws.{ended-8, ended-on}
 use Rattle.headers.proofs.ended.Statement.{statement}
 use Rattle.headers.proofs.ended.Tie as tie

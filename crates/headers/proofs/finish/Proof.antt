@@ -3,7 +3,7 @@ use mathlib.Core.Path.{refl, _∙_}
 use lib.ListN.{length-set}
 use borrow.Author.Needs.{needs}
 use denote.Ref.{now}
-use Rattle.states.proofs.Laws.{so}
+use Rattle.stream.proofs.states.Laws.{so}
 use Rattle.headers.proofs.Laws.{bounded-marked, finish-refused, finish-told}
 use Rattle.headers.proofs.finish.Statement.{statement}
 use Rattle.headers.proofs.finish.Tie as tie

@@ -22,19 +22,19 @@ counted t buffer i had n h e q p = p ∙ ap (λ (x : ℕ). headerOf (indexOf t) 
 
 returns-2 : tie.Need-returns-2
 returns-2 c =
-    let b = c .before in
-    let s = b .before .before .before .before in
+    let b = c .before .before in
+    let s = b .before .before .before in
     counted (s .before .before .args .table) _ (b .before .index-of .result) (b .count .result) (s .before .before .args .n) _ (b .before .index-of .ensures .0) (b .count .ensures .0)
-    (header-6 (s .before .before .args .table) (s .before .before .args .n) (b .count .result) (s .size-of .result) (s .size-of .ensures .0)
-    (b .before .before .most-of .result) (b .before .before .most-of .ensures .0) (b .before .before .before .if1 .left) (c .if2 .taken))
+    (header-6 (s .before .before .args .table) (s .before .before .args .n) (b .count .result) (s .shape-of .result .size) (s .shape-of .ensures .1)
+    (s .shape-of .result .most) (s .shape-of .ensures .2) (b .before .before .if1 .left) (c .if2 .taken))
 
 returns-3 : tie.Need-returns-3
 returns-3 c =
-    let b = c .before in
-    let s = b .before .before .before .before in
+    let b = c .before .before in
+    let s = b .before .before .before in
     counted (s .before .before .args .table) _ (b .before .index-of .result) (b .count .result) (s .before .before .args .n) _ (b .before .index-of .ensures .0) (b .count .ensures .0)
-    (header-right (s .before .before .args .table) (s .before .before .args .n) (b .count .result) (s .size-of .result) (s .size-of .ensures .0)
-    (b .before .before .most-of .result) (b .before .before .most-of .ensures .0) (b .before .before .before .if1 .left) (c .if2 .left))
+    (header-right (s .before .before .args .table) (s .before .before .args .n) (b .count .result) (s .shape-of .result .size) (s .shape-of .ensures .1)
+    (s .shape-of .result .most) (s .shape-of .ensures .2) (b .before .before .if1 .left) (c .if2 .left))
 
 pub fits-spec : {M : Type 1} → statement M
 fits-spec =
@@ -43,11 +43,10 @@ fits-spec =
     (λ c κs. search needs)
     (λ c. search needs)
     (λ c. let a = c .before .before .before .args in
-    header-5 (a .table) (a .n) (hadIn (now (a .image)) (indexOf (a .table))) (c .before .size-of .result) (c .before .size-of .ensures .0) (c .if1 .taken))
-    (λ c κs. search needs)
+    header-5 (a .table) (a .n) (hadIn (now (a .image)) (indexOf (a .table))) (c .before .shape-of .result .size) (c .before .shape-of .ensures .1) (c .if1 .taken))
     (λ c κs. search needs)
     (λ c κs. search needs)
     (λ c. search needs)
-    (λ c. omega (arith, div-le-self (c .before .before .before .before .before .before .args .n) (c .before .before .before .before .size-of .result)))
+    (λ c. omega (arith, div-le-self (c .before .before .before .before .before .args .n) (c .before .before .before .shape-of .result .size)))
     returns-2
     returns-3)

@@ -1,7 +1,8 @@
 -- `headers::summed`: the end, 2, or a block begins.
+use mathlib.Core.Path.{refl}
 use borrow.Author.Needs.{needs}
 use denote.Ref.{now}
-use Rattle.states.proofs.Laws.{so}
+use Rattle.stream.proofs.states.Laws.{so}
 use Rattle.headers.proofs.Laws.{summed-end, summed-2, summed-on}
 use Rattle.headers.proofs.summed.Statement.{statement}
 use Rattle.headers.proofs.summed.Tie as tie
@@ -21,13 +22,13 @@ returns-2 c =
 
 returns-3 : tie.Need-returns-3
 returns-3 c =
-    let h = c .before .before .before .before .before .before .before in
+    let h = c .before .before .before .before .before .before in
     let a = h .before .before .before .args in
     so
     (summed-on (a .stream) (a .first) (a .second) (a .w) _ _ _ (now (a .image)) (h .before .if1 .left) (h .header-sum .ensures)
-    (c .before .before .before .before .before .before .if2 .left)
-    (c .before .before .before .before .word-in .ensures)
-    (c .before .before .before .wide .ensures))
+    (c .before .before .before .before .before .if2 .left)
+    (c .before .before .before .word-in .ensures)
+    refl)
     (c .before .before .begun .ensures)
 
 pub summed-spec : {M : Type 1} → statement M
@@ -42,7 +43,7 @@ summed-spec =
     (λ c. c .before .before .refuse .kept .0)
     returns-2
     (λ c κs. search needs)
-    (λ c κs. search needs)
+    (λ c. search needs)
     (λ c κs. search needs)
     (λ c. c .before .before .begun .kept .0)
     returns-3)

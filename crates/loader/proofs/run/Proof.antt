@@ -7,7 +7,7 @@ use borrow.Author.Needs.{needs}
 use denote.Ref.{now}
 use Rattle.stream.specs.Machine.{Machine, at, run}
 use Rattle.stream.specs.Fine.{Fine, step-fine}
-use Rattle.states.proofs.Laws.{leaves-at, at-leaves}
+use Rattle.stream.proofs.states.Laws.{leaves-at, at-leaves}
 use Rattle.loader.proofs.Laws.{one-more, run-end}
 use Rattle.loader.proofs.run.Statement.{statement}
 use Rattle.loader.proofs.run.Tie as tie

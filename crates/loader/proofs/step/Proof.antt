@@ -2,7 +2,7 @@
 use mathlib.Core.Path.{refl, _∙_, ap, subst}
 use borrow.Author.Needs.{needs}
 use denote.Ref.{now}
-use Rattle.states.proofs.Laws.{so}
+use Rattle.stream.proofs.states.Laws.{so}
 use Rattle.loader.proofs.Laws.{at-phase}
 use Prim.Native.Nat.{ℕ}
 use Rattle.stream.specs.Machine.{at, headed, sized}

@@ -14,7 +14,7 @@ use Rattle.tables.specs.Tables.{indexOf}
 use Rattle.stream.specs.Machine.{beyond}
 use Rattle.stream.specs.Runs.{index-lt}
 use Rattle.one_block.specs.Data.{dataPlace}
-use Rattle.refusal.proofs.Laws.{beyond-is}
+use Rattle.placing.proofs.refusal.Laws.{beyond-is}
 use Rattle.one_block.proofs.data_place.Statement.{statement}
 use Rattle.one_block.proofs.data_place.Tie as tie
 

@@ -8,7 +8,7 @@ use Rattle.tables.specs.Rows.{sizeOf, mostOf}
 use Rattle.tables.specs.Tables.{indexOf}
 use Rattle.stream.specs.Bridge.{room-inside}
 use Rattle.stream.specs.Runs.{index-lt}
-use Rattle.states.proofs.Laws.{so}
+use Rattle.stream.proofs.states.Laws.{so}
 use Rattle.one_block.proofs.Laws.{data-run}
 use Rattle.one_block.proofs.stored.Statement.{statement}
 use Rattle.one_block.proofs.stored.Tie as tie

@@ -2,7 +2,7 @@
 use mathlib.Core.Path.{refl}
 use borrow.Author.Needs.{needs}
 use denote.Ref.{now}
-use Rattle.states.proofs.Laws.{so}
+use Rattle.stream.proofs.states.Laws.{so}
 use Rattle.placing.proofs.Laws.{filled-7, filled-sum, filled-word}
 use Rattle.placing.proofs.filled.Statement.{statement}
 use Rattle.placing.proofs.filled.Tie as tie

@@ -8,11 +8,11 @@ use Rattle.placing.proofs.Laws.{raised-bound, raised-is, most-small}
 use Rattle.placing.proofs.raised.Statement.{statement}
 use Rattle.placing.proofs.raised.Tie as tie
 
-bound : (c : tie.After-count) → c .count .result + c .before .before .before .before .args .placed / c .before .before .size-of .result ≤ 4096
+bound : (c : tie.After-count) → c .count .result + c .before .before .before .before .args .placed / c .before .before .shape-of .result .size ≤ 4096
 bound c =
     let a = c .before .before .before .before in
     le-trans
-    (raised-bound (a .args .table) (now (a .args .image)) _ (c .before .index-of .result) _ (c .before .before .size-of .ensures .0)
+    (raised-bound (a .args .table) (now (a .args .image)) _ (c .before .index-of .result) _ (c .before .before .shape-of .ensures .1)
     (c .before .index-of .ensures .0)
     (c .count .ensures .0)
     _
@@ -30,7 +30,7 @@ raised-spec =
     (λ c. record { fits = omega (arith, bound c) })
     (λ c. record { fits = omega (arith, bound c) })
     (λ c. let a = c .before .before .before .before in
-    raised-is (a .args .table) (now (a .args .image)) _ (c .before .index-of .result) _ (c .before .before .size-of .ensures .0)
+    raised-is (a .args .table) (now (a .args .image)) _ (c .before .index-of .result) _ (c .before .before .shape-of .ensures .1)
     (c .before .index-of .ensures .0)
     (c .count .ensures .0)
     _))

@@ -1,9 +1,9 @@
 -- `plan::policed_by`: 7 for entry k, then its meter's.
-use mathlib.Core.Path.{sym, ap, _∙_}
+use lib.Dec.{lit<}
+use mathlib.Core.Path.{ap, _∙_}
 use Prim.Native.Nat.{ℕ}
-use borrow.Author.Tests.{leb-false}
 use denote.Ref.{now}
-use Rattle.laws.specs.Chain.{hit, pass}
+use Rattle.laws.specs.Chain.{hit-le, pass-le, of-le, lt-of}
 use Rattle.layout.specs.Layout.{imageIn}
 use Rattle.plan.specs.Police.{meteredBy}
 use Rattle.plan.proofs.policed_by.Statement.{statement}
@@ -13,14 +13,13 @@ pub policed-by-spec : {M : Type 1} → statement M
 policed-by-spec =
     tie.close
     (tie.spec
-    (λ c κs. c .before .pre)
-    (λ c. hit _ _ _ _ (c .before .unloaded .ensures) (c .if1 .taken))
+    (λ c κs. (c .before .pre .within .whole, lit< tt))
+    (λ c. hit-le _ _ _ _ (of-le _ _ _ (c .before .count .ensures .0) (c .if1 .taken)))
     (λ c κs.
-    let there = leb-false _ _ (sym (c .before .unloaded .ensures) ∙ c .if1 .left) in
     let s = c .before .before .before .pre in
-    record { whole = s .within .whole; within = s .within .policers; there = there })
-    (λ c κs. (c .before .before .before .before .pre, leb-false _ _ (sym (c .before .before .unloaded .ensures) ∙ c .before .if1 .left)))
+    record { whole = s .within .whole; within = s .within .policers; there = lt-of _ _ _ (c .before .count .ensures .0) (c .if1 .left) })
+    (λ c κs. (c .before .before .before .before .pre, lt-of _ _ _ (c .before .before .count .ensures .0) (c .before .if1 .left)))
     (λ c.
     let s = c .before .before .before .before .before .args in
-    pass _ _ _ _ _ (c .before .before .before .unloaded .ensures) (c .before .before .if1 .left)
+    pass-le _ _ _ _ _ (lt-of _ _ _ (c .before .before .before .count .ensures .0) (c .before .before .if1 .left))
     (c .metered .ensures ∙ ap (λ (m : ℕ). meteredBy (imageIn (now (s .image))) (s .policer) m (s .octets)) (c .before .sharindx .ensures .0))))

@@ -7,7 +7,7 @@ use borrow.Author.Needs.{needs}
 use denote.Ref.{now}
 use Rattle.stream.specs.Machine.{Machine, at, run}
 use Rattle.stream.specs.Fine.{Fine, run-fine}
-use Rattle.states.proofs.Laws.{leaves-at, at-leaves}
+use Rattle.stream.proofs.states.Laws.{leaves-at, at-leaves}
 use Rattle.loader.proofs.Laws.{run-end}
 use Rattle.quick.proofs.Laws.{rest, goes-on}
 use Rattle.quick.proofs.run.Statement.{statement}

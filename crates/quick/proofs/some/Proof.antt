@@ -8,7 +8,7 @@ use denote.Ref.{now}
 use Rattle.stream.specs.Machine.{at}
 use Rattle.stream.specs.Fine.{Roomy}
 use Rattle.stream.specs.declared.Phase.{Phase}
-use Rattle.states.proofs.Laws.{so}
+use Rattle.stream.proofs.states.Laws.{so}
 use Rattle.quick.proofs.Laws.{one-word}
 use Rattle.quick.proofs.some.Statement.{statement}
 use Rattle.quick.proofs.some.Tie as tie

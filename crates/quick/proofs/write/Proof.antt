@@ -4,8 +4,8 @@ use borrow.Author.Needs.{needs}
 use denote.Ref.{now}
 use Rattle.stream.specs.Machine.{Machine, run}
 use Rattle.stream.specs.Fine.{Fine}
-use Rattle.states.proofs.Laws.{so}
-use Rattle.refusal.proofs.Writes.{LetBy, writes-refused, let-by, opened-fine, writes-run}
+use Rattle.stream.proofs.states.Laws.{so}
+use Rattle.placing.proofs.refusal.Writes.{LetBy, writes-refused, let-by, opened-fine, writes-run}
 use Rattle.quick.proofs.write.Statement.{statement}
 use Rattle.quick.proofs.write.Tie as tie
 

@@ -8,7 +8,7 @@ use lib.ListN.{drop}
 use borrow.Author.Needs.{needs}
 use denote.Ref.{now}
 use Rattle.layout.specs.Layout.{imageIn}
-use Rattle.broken.specs.Broken.{vlanTwice, vlanMissing}
+use Rattle.rules.specs.Broken.{vlanTwice, vlanMissing}
 use Rattle.rules.specs.Rules.{rules, firstOf}
 use Rattle.rules.proofs.broken_after_20.Statement.{statement}
 use Rattle.rules.proofs.broken_after_20.Tie as tie

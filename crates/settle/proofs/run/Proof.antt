@@ -25,7 +25,4 @@ run-spec =
     (λ c. omega arith)
     (λ c. omega arith)
     (λ c. omega arith)
-    (λ c. omega arith)
-    (λ c. omega arith)
-    (λ c. omega arith)
     (λ c. runs-as _ _ _ _ _ (c .before .settle .ensures)))

@@ -9,7 +9,7 @@ use denote.Ref.{now}
 use Rattle.stream.specs.Paper.{wordsOf}
 use Rattle.stream.specs.Machine.{Machine, at, fresh, run}
 use Rattle.stream.specs.Fine.{Fine, cleared-fine, run-fine}
-use Rattle.states.proofs.Laws.{so, leaves-at}
+use Rattle.stream.proofs.states.Laws.{so, leaves-at}
 use Rattle.whole.proofs.Laws.{started, part-of, bytes-on}
 use Rattle.quick.proofs.Laws.{part-is}
 use Rattle.whole.proofs.bytes_run.Statement.{statement}

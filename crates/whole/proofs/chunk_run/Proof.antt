@@ -9,7 +9,7 @@ use borrow.Author.Needs.{needs}
 use denote.Ref.{now}
 use Rattle.stream.specs.Paper.{wordsOf}
 use Rattle.stream.specs.Machine.{at, run}
-use Rattle.states.proofs.Laws.{so}
+use Rattle.stream.proofs.states.Laws.{so}
 use Rattle.whole.proofs.Laws.{chunk-on, chunk-end}
 use Rattle.whole.proofs.chunk_run.Statement.{statement}
 use Rattle.whole.proofs.chunk_run.Tie as tie

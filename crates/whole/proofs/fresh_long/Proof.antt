@@ -2,7 +2,7 @@
 use mathlib.Core.Path.{sym, _∙_, ap, subst}
 use borrow.Author.Needs.{needs}
 use denote.Ref.{now}
-use Rattle.states.proofs.Laws.{so}
+use Rattle.stream.proofs.states.Laws.{so}
 use Rattle.whole.proofs.Laws.{started}
 use Rattle.stream.specs.Machine.{Machine, fresh, run}
 use Rattle.stream.specs.Fine.{Fine, cleared-fine}

@@ -3,8 +3,8 @@ use mathlib.Core.Path.{refl, sym, _∙_, ap, subst}
 use borrow.Author.Needs.{needs}
 use denote.Ref.{now}
 use Rattle.whole.proofs.Laws.{ends-as, bytes-31, bytes-9, bytes-whole}
-use Rattle.refusal.proofs.Laws.{has-room}
-use Rattle.states.proofs.Laws.{leaves-at}
+use Rattle.placing.proofs.refusal.Laws.{has-room}
+use Rattle.stream.proofs.states.Laws.{leaves-at}
 use Prim.Native.Nat.{ℕ, _≤_}
 use Rattle.layout.specs.Layout.{imageWords}
 use Rattle.stream.specs.Ends.{settled}

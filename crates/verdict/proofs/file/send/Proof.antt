@@ -1,17 +1,16 @@
--- `verdict::file::send`: the turns fall, what was read lies within the buffer, and the image keeps its length.
-use mathlib.Core.Path.{_≡_, refl, sym}
+-- `verdict::file::send`: each turn takes four of the bytes that were read, and the image keeps its length.
+use mathlib.Core.Path.{_≡_}
+use Prim.Native.Nat.{_-_, _≤_}
 use lib.ListN.{length}
-use lib.Seq.{length-take-le}
-use native.Mathlib.Omega.{arith}
 use borrow.Author.Needs.{needs}
 use Rattle.verdict.proofs.file.send.Statement.{statement}
 use Rattle.verdict.proofs.file.send.Tie as tie
 
 abbrev Inv-loop : tie.InvT-loop
-Inv-loop fd image₀ load₀ turns₀ image load turns = length image ≡ length image₀
+Inv-loop fd image₀ bytes n wrote₀ at₀ image wrote at = (length image ≡ length image₀) × (at ≤ n) × (n ≤ length bytes)
 
 abbrev μ-loop : tie.MeasureT-loop
-μ-loop fd image₀ load₀ turns₀ image load turns = turns
+μ-loop fd image₀ bytes n wrote₀ at₀ image wrote at = n - at
 
 pub send-spec : {M : Type 1} → statement M
 send-spec =
@@ -19,25 +18,17 @@ send-spec =
     (tie.spec
     Inv-loop
     μ-loop
-    (λ c κs. tt)
-    (λ c. refl)
-    (λ c κs. tt)
     (λ c. search needs)
-    (λ c κs. tt)
-    (λ c. omega arith)
-    (λ c. tt)
-    (λ c. search needs)
-    (λ c. sym (length-take-le _ _ (omega arith)))
-    (λ c κs. tt)
+    (λ c κs. search needs)
+    (λ c κs. search needs)
     (λ c. search needs)
     (λ c. search needs)
-    (λ c. omega arith)
-    (λ c. tt)
     (λ c. search needs)
-    (λ c. omega arith)
-    (λ c. tt)
-    (λ c. omega arith)
-    (λ c. omega arith)
-    (λ c. omega arith)
-    (λ c. omega arith)
-    (λ c. tt))
+    (λ c κs. search needs)
+    (λ c. search needs)
+    (λ c κs. search needs)
+    (λ c. search needs)
+    (λ c. search needs)
+    (λ c. search needs)
+    (λ c. search needs)
+    (λ c. search needs))

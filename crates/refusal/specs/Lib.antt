@@ -1,2 +1,0 @@
--- What a write is refused with.
-pub mod Refusal
