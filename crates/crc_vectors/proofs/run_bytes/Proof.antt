@@ -7,7 +7,7 @@ use Rattle.crc_vectors.proofs.run_bytes.Statement.{statement}
 use Rattle.crc_vectors.proofs.run_bytes.Tie as tie
 
 abbrev Inv-loop : tie.InvT-loop
-Inv-loop bytes r₀ i₀ t4 r i = length t4 ≡ 8
+Inv-loop bytes r₀ i₀ t4 r i = length t4 ≡ 9
 
 abbrev μ-loop : tie.MeasureT-loop
 μ-loop bytes r₀ i₀ t4 r i = length bytes - i
