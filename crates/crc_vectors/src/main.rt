@@ -26,12 +26,16 @@ fn print_both(name: &[u8], n: usize, both: Both) {
     io::write_all(STDOUT_FILENO, b"\n");
 }
 
+fn wide(x: u8) -> u32 {
+    x as u32
+}
+
 // Bytes, by themselves: the check value of CRC-32.
 fn run_bytes(bytes: &[u8]) {
     let mut r = crc::START;
     let mut i = 0;
     while i < bytes.len() {
-        r = crc::bits_out(r ^ (bytes[i] as u32), 8);
+        r = crc::bits_out(r ^ wide(bytes[i]), 8);
         i += 1;
     }
     print_line(b"bits_out ", bytes.len(), crc::finish(r));
