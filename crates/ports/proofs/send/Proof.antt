@@ -3,6 +3,7 @@ use mathlib.Core.Path.{ap, _∙_}
 use mathlib.Core.List.{List}
 use Prim.Native.Nat.{ℕ, _<_}
 use native.Mathlib.Omega.{arith}
+use borrow.Author.Needs.{needs}
 use lib.Bits.{bitAnd}
 use lib.Dec.{lit<}
 use denote.Ref.{now}
@@ -29,7 +30,7 @@ send-spec =
     (λ c κs. (c .before .before .before .pre .0, (c .before .vlan-pmap .ensures .1, lit< tt)))
     (λ c κs. (c .before .before .before .before .pre .0, (c .before .before .vlan-pmap .ensures .1, lit< tt)))
     (λ c κs. (c .before .before .before .before .before .pre .0, (c .before .before .before .vlan-pmap .ensures .1, lit< tt)))
-    (λ c κs. (c .before .before .before .before .before .before .pre .0, (c .before .before .before .before .vlan-pmap .ensures .1, lit< tt)))
+    (λ c κs. (c .before .before .before .before .before .before .pre .0, (search needs, lit< tt)))
     (λ c κs. (c .before .before .before .before .before .before .before .pre .0, (c .before .before .before .before .before .vlan-pmap .ensures .1, lit< tt)))
     (λ c.
     let q = c .before .before .before .before in
