@@ -35,9 +35,14 @@ fn count_bytes(fd: i32) -> Counted {
 // More bytes than a stream can need before it is answered: 32,182 words.
 const MOST: usize = 131072;
 
+// Made by a call: where an array is made, the prover counts its zeros one by one.
+fn room() -> [u8; MOST] {
+    [0u8; MOST]
+}
+
 // What is left of a file, a word a write. An answer that was told is repeated, so the last one counts.
 fn send(fd: i32, image: &mut [u32]) -> Answer {
-    let mut bytes = [0u8; MOST];
+    let mut bytes = room();
     let n = io::read_full(fd, &mut bytes);
     let mut wrote = Wrote {
         load: states::fresh(),
