@@ -5,3 +5,5 @@ pub mod Laws
 pub mod Walk
 pub mod Promises
 pub mod Pins
+pub mod Bytes
+pub mod ByteLaws

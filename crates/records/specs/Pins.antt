@@ -3,7 +3,7 @@ use mathlib.Core.Path.{_≡_, refl}
 use mathlib.Core.List.{List, [], _∷_, _++_}
 use Prim.Native.Nat.{ℕ}
 use lib.ListN.{replicate}
-use Rattle.list_bytes.specs.Bytes.{big, differ}
+use Rattle.records.specs.Bytes.{big, differ}
 use Rattle.records.specs.List.{Opens, version, shut, Stands, frame, release, end, refused, mark, versionOne, firstPlace, openingOf, kindOf, frameAt, releaseAt, standsAt}
 use Rattle.records.specs.Walk.{walk, walkFor}
 

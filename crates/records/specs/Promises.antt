@@ -9,7 +9,7 @@ use native.Mathlib.Omega.{arith}
 use lib.Dec.{ltb, leb, eqb}
 use lib.ListN.{length, getD}
 use borrow.Author.Tests.{ltb-false, leb-true}
-use Rattle.list_bytes.specs.Bytes.{numberAt}
+use Rattle.records.specs.Bytes.{numberAt}
 use Rattle.records.specs.List.{Opens, version, shut, Stands, frame, release, end, refused, openingOf, kindOf, withCount, frameAt, releaseAt, ofKind, under, standsAt}
 use Rattle.records.specs.Answer.{numberOf, told}
 use Rattle.records.specs.Walk.{after, walkFor, walk, Stopped, Inside}

@@ -1,6 +1,8 @@
 // The frame list: what stands at a place of it. Nothing is asked of a caller: any bytes are a list, and any number is a place.
-use list_bytes::differs;
-use list_bytes::number_at;
+pub mod bytes;
+
+use crate::bytes::differs;
+use crate::bytes::number_at;
 ghost use mathlib.Core.Path.{_≡_};
 ghost use Prim.Native.Nat.{_<_};
 ghost use lib.ListN.{length};
