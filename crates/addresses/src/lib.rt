@@ -2,10 +2,10 @@
 ghost use mathlib.Core.Path.{_≡_};
 ghost use mathlib.Core.Bool.{cond, not, false};
 ghost use Prim.Native.Nat.{_+_, _-_, _%_, _≤_, _<_};
-ghost use lib.Dec.{ltb, eqb};
+ghost use lib.Dec.{ltb};
 ghost use lib.ListN.{length};
 ghost use Rattle.layout.specs.Layout.{Held, imageWords, imageIn, countOf};
-ghost use Rattle.image.specs.Fields.{sharedLearn, macaddr, destports, index};
+ghost use Rattle.image.specs.Fields.{sharedLearn, macaddr, index};
 ghost use Rattle.laws.specs.Scan.{some-below};
 ghost use Rattle.lookup.specs.Groups.{from};
 ghost use Rattle.addresses.specs.Address.{holds, likeAddress, matches, bars, barred, destinationAt};

@@ -3,15 +3,13 @@
 use stream::Load;
 use stream::Phase;
 use stream::states;
-use tables::Table;
 ghost use mathlib.Core.Path.{_≡_};
 ghost use Prim.Native.Nat.{_+_, _≤_};
 ghost use lib.Dec.{ltb};
 ghost use lib.ListN.{length};
 ghost use Rattle.layout.specs.Layout.{imageWords, imageIn};
 ghost use Rattle.image.specs.Sound.{Within};
-ghost use Rattle.tables.specs.Tables.{indexOf};
-ghost use Rattle.stream.specs.Machine.{at, beyond, overdueIn, damaged, outside, opened};
+ghost use Rattle.stream.specs.Machine.{at, overdueIn, damaged, outside, opened};
 ghost use Rattle.placing.specs.Refusal.{writeRefusal};
 
 // More words are placed and due than are left. The sum is tested without ever being out of a number's range.

@@ -4,12 +4,9 @@ ghost use mathlib.Core.Path.{_≡_};
 ghost use Prim.Native.Nat.{_<_, _≤_};
 ghost use lib.ListN.{length};
 ghost use Rattle.layout.specs.Layout.{imageIn, countOf};
-ghost use Rattle.image.specs.Fields.{vmembPort};
 ghost use Rattle.image.specs.Sound.{Sound};
-ghost use Rattle.addresses.specs.Address.{holds};
-ghost use Rattle.frame.specs.Laws.{Whole};
 ghost use Rattle.plan.specs.Steps.{placedOf, outsider, keptOut};
-ghost use Rattle.plan.specs.Enter.{byPlace, byIntake, enterOf};
+ghost use Rattle.plan.specs.Enter.{byPlace, enterOf};
 ghost use Rattle.plan.specs.EnterLaws.{Inside};
 
 // Step 4: the VLAN's place in 07.

@@ -4,13 +4,11 @@ pub mod enter;
 
 use ports::Sending;
 ghost use mathlib.Core.Path.{_≡_};
-ghost use Prim.Native.Nat.{_+_, _<_, _≤_};
-ghost use lib.Dec.{leb};
-ghost use lib.ListN.{length};
+ghost use Prim.Native.Nat.{_<_};
 ghost use Rattle.layout.specs.Layout.{imageIn, countOf};
 ghost use Rattle.image.specs.Sound.{Sound};
 ghost use Rattle.plan.specs.EnterLaws.{LetIn};
-ghost use Rattle.plan.specs.Police.{policerOf, meteredBy, policedBy, policedOf};
+ghost use Rattle.plan.specs.Police.{policerOf, meteredBy, policedBy};
 ghost use Rattle.plan.specs.Plan.{byPolicer, planOf};
 ghost use Rattle.plan.specs.Laws.{Loaded};
 

@@ -1,7 +1,6 @@
 // Where a frame is sent: its ports, its new priority, the ports that tag it, and its five queues. Image and frame only.
 ghost use mathlib.Core.Path.{_≡_};
 ghost use Prim.Native.Nat.{_+_, _<_, _≤_};
-ghost use lib.Bits.{bitAnd};
 ghost use Rattle.layout.specs.Layout.{imageIn, countOf};
 ghost use Rattle.image.specs.Sound.{Sound};
 ghost use Rattle.ports.specs.Ports.{towards, wantedOf, maskOf, egressPorts, others, portsOf, queueOf, sendingOf};
