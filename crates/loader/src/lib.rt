@@ -1,7 +1,6 @@
 // A write, word by word: what the program loads with. No table of checksums stands below it, so that the program proves none; `quick` has the same write by tables.
 pub mod headers;
 
-use crate::headers;
 use placing::refusal;
 use stream::Answer;
 use stream::Load;
