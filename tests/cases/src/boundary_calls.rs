@@ -162,7 +162,7 @@ const WRITE_COUNTS: [&str; 9] = [
 /// 30 of a write: each count at its limit and above, between two blocks.
 fn write_counts(rng: &mut Rng, tally: &mut Tally) {
     let stream = plain_stream(&k::lists());
-    for row in &ROWS {
+    for row in ROWS {
         let most = row.most as u32;
         let above = rng.pick(&[most + 1, u32::MAX]);
         for (count, side) in [(most, Side::Passes), (above, Side::Refused)] {

@@ -111,7 +111,7 @@ const SIX: [&str; 9] = [
 
 fn lengths(rng: &mut Rng) -> Vec<Case> {
     let mut cases = Vec::new();
-    for row in &ROWS {
+    for row in ROWS {
         let words = row.words as u32;
         let most = row.most as u32;
         if words > 1 {

@@ -71,7 +71,7 @@ pub fn free_bits(rng: &mut Rng, blocks: &mut [Block]) {
 /// Each table cut between entries at random; a table's blocks keep their order.
 pub fn split(rng: &mut Rng, lists: &Lists) -> Vec<Vec<Block>> {
     let mut by_table = Vec::new();
-    for row in &ROWS {
+    for row in ROWS {
         let entries = lists.of(row.table);
         let mut cuts = Vec::new();
         if rng.once_in(2) && !entries.is_empty() {
@@ -117,7 +117,7 @@ pub fn reordered(rng: &mut Rng, lists: &Lists) -> Vec<u32> {
 /// Every table as blocks of one entry each.
 pub fn one_entry_a_block(lists: &Lists) -> Vec<u32> {
     let mut blocks = Vec::new();
-    for row in &ROWS {
+    for row in ROWS {
         let entries = lists.of(row.table);
         blocks.extend(cut_blocks(row.table, entries, &vec![1; entries.len()]));
     }

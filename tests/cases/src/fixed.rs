@@ -27,7 +27,7 @@ fn arrangements() -> Vec<Case> {
             cases.push(Case::of_words(&name, "document 01: blocks in any order", &words));
         }
     }
-    for row in &ROWS {
+    for row in ROWS {
         let entries = k::lists().of(row.table).len();
         for cut in 1..entries.max(1) {
             let words = cut_in_two(row.table, cut);

@@ -235,7 +235,7 @@ fn near_port(rng: &mut Rng, lists: &mut Lists, port: usize) {
 /// Any tables of any size within their limits, sometimes one entry above.
 fn wild(rng: &mut Rng) -> Lists {
     let mut lists = Lists::default();
-    for row in &ROWS {
+    for row in ROWS {
         let entries = match rng.below(8) {
             0 => 0,
             1 if row.most < 100 => row.most + 1,

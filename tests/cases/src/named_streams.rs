@@ -299,7 +299,7 @@ fn rules() -> Vec<Case> {
         Case::of_words("23_final_count", RULES, &stream_of(&blocks, End::default())).loaded(),
     ];
     // An absent table is no zero entry: only 05 and 0D may be absent.
-    for row in &ROWS {
+    for row in ROWS {
         let mut lists = k::lists();
         lists.of_mut(row.table).clear();
         let name = format!("20_without_{:02x}", row.id);

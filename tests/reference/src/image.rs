@@ -1,20 +1,34 @@
-//! The image: the first 11,456 words of a lent buffer, and where everything stands in it.
-//! Document 01, "The stream", last paragraph: entries, nine counts, the mark, zeros.
+//! The image: the first words of a lent buffer, and where everything stands in it. All of it follows from the rows.
+//! Document 01, "The stream", last paragraph: entries, counts, the mark, zeros.
 
 use crate::rules;
-use crate::tables::{read_field, Field, Table, ROWS};
+use crate::tables::{read_field, Field, Row, Table, ROWS};
+
+/// Words for counts and state, behind those of entries.
+const COUNTS_AND_STATE: usize = 26;
 
 /// Words of the image; a buffer's words beyond are never written.
-pub const IMAGE_WORDS: usize = 11_456;
+pub const IMAGE_WORDS: usize = FIRST_COUNT + COUNTS_AND_STATE;
 
-/// The nine counts stand behind the entries, in ascending block ID.
-pub const FIRST_COUNT: usize = 11_430;
+/// The counts stand behind the entries, in row order.
+pub const FIRST_COUNT: usize = entry_words(ROWS);
 
 /// The mark stands behind the counts.
 pub const MARK: usize = FIRST_COUNT + ROWS.len();
 
 /// The mark of a loaded image; any other word is "not marked".
 pub const LOADED: u32 = 1;
+
+/// Words that the entries of these tables have at most.
+const fn entry_words(rows: &[Row]) -> usize {
+    let mut words = 0;
+    let mut place = 0;
+    while place < rows.len() {
+        words += rows[place].words * rows[place].most;
+        place += 1;
+    }
+    words
+}
 
 /// Refusal 31 asks this.
 pub fn too_short(image: &[u32]) -> bool {
@@ -28,17 +42,13 @@ pub fn make_zero(image: &mut [u32]) {
     }
 }
 
-/// Where a table's entries begin.
-pub fn start_of(table: Table) -> usize {
-    let mut start = 0;
-    for row in &ROWS[..table.place()] {
-        start += row.words * row.most;
-    }
-    start
+/// Where a table's entries begin: behind those of the rows before it.
+pub const fn start_of(table: Table) -> usize {
+    entry_words(ROWS.split_at(table.place()).0)
 }
 
 /// Where a table's count stands.
-pub fn count_place(table: Table) -> usize {
+pub const fn count_place(table: Table) -> usize {
     FIRST_COUNT + table.place()
 }
 
@@ -77,7 +87,7 @@ pub fn values(image: &[u32], field: Field) -> Vec<u64> {
 /// The image that a load of these lists gives, with its mark: used to say what is expected.
 pub fn of_lists(lists: &crate::stream::Lists) -> Vec<u32> {
     let mut image = vec![0; IMAGE_WORDS];
-    for row in &ROWS {
+    for row in ROWS {
         let entries = lists.of(row.table);
         image[count_place(row.table)] = entries.len() as u32;
         for (number, words) in entries.iter().enumerate() {
@@ -93,11 +103,22 @@ pub fn of_lists(lists: &crate::stream::Lists) -> Vec<u32> {
 mod tests {
     use super::*;
 
+    /// A pin: document 01's own numbers, which are computed everywhere else.
     #[test]
-    fn entries_end_where_the_counts_begin() {
-        let last = Table::XmiiModeParameters;
-        assert_eq!(start_of(last) + last.words() * last.most(), FIRST_COUNT);
+    fn the_image_is_as_long_as_document_01_says() {
+        assert_eq!(FIRST_COUNT, 11_430);
         assert_eq!(MARK, 11_439);
+        assert_eq!(IMAGE_WORDS, 11_456);
         assert_eq!(IMAGE_WORDS - FIRST_COUNT, 26);
+    }
+
+    #[test]
+    fn each_table_begins_where_the_one_before_it_ends() {
+        let mut start = 0;
+        for row in ROWS {
+            assert_eq!(start_of(row.table), start);
+            start += row.words * row.most;
+        }
+        assert_eq!(start, FIRST_COUNT);
     }
 }

@@ -2,7 +2,7 @@
 //! Document 01, "The stream", first two paragraphs.
 
 use crate::crc;
-use crate::tables::{put_field, read_field, Field, Table, ROWS};
+use crate::tables::{ascending, put_field, read_field, Field, Table, ROWS};
 
 /// Word 0 of every stream.
 pub const DEVICE_ID: u32 = 0x9E00_030E;
@@ -10,7 +10,7 @@ pub const DEVICE_ID: u32 = 0x9E00_030E;
 /// One list of entries for each table; an entry is its words, low word first.
 #[derive(Clone, PartialEq, Eq, Debug, Default)]
 pub struct Lists {
-    pub entries: [Vec<Vec<u32>>; 9],
+    entries: [Vec<Vec<u32>>; ROWS.len()],
 }
 
 impl Lists {
@@ -93,10 +93,10 @@ pub fn stream_of(blocks: &[Block], end: End) -> Vec<u32> {
     words
 }
 
-/// One block a table that has entries, in ascending ID, free bits zero.
+/// One block a table that has entries, in ascending ID as Linux's driver sends them, free bits zero.
 pub fn plain_blocks(lists: &Lists) -> Vec<Block> {
     let mut blocks = Vec::new();
-    for row in &ROWS {
+    for row in ascending() {
         let entries = lists.of(row.table);
         if !entries.is_empty() {
             blocks.push(Block::plain(row.id, entries.concat()));

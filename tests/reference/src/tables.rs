@@ -1,7 +1,7 @@
-//! The nine tables, their sizes, and the fields that are used, with the manual's bit numbers.
+//! The tables that are carried, their sizes, and the fields that are used, with the manual's bit numbers.
 //! Document 01, "The stream": the table of IDs and "Fields used"; 001, tables 2 and 10 to 24.
 
-/// A table that is carried, in ascending block ID.
+/// A table that is carried.
 #[derive(Clone, Copy, PartialEq, Eq, Debug)]
 pub enum Table {
     L2AddressLookup,
@@ -27,8 +27,9 @@ const fn row(id: u8, table: Table, words: usize, most: usize) -> Row {
     Row { table, id, words, most }
 }
 
-/// ID, table, words an entry, most entries.
-pub const ROWS: [Row; 9] = [
+/// ID, table, words an entry, most entries. Entries and counts stand in this order in the image: a table's number is its place here.
+/// The order is that in which the tables were taken in, so that a new one moves none; it need not be that of the IDs.
+pub const ROWS: &[Row] = &[
     row(0x05, Table::L2AddressLookup, 3, 1024),
     row(0x06, Table::L2Policing, 2, 45),
     row(0x07, Table::VlanLookup, 2, 4096),
@@ -47,38 +48,46 @@ pub const IDS_OF_TABLE_2: [u8; 20] = [
 ];
 
 impl Table {
-    /// Its place in ascending block ID, from 0.
-    pub fn place(self) -> usize {
+    /// Its place in the rows, from 0.
+    pub const fn place(self) -> usize {
         let mut place = 0;
-        while ROWS[place].table != self {
+        // As numbers: a const fn cannot ask whether two enums are equal.
+        while ROWS[place].table as usize != self as usize {
             place += 1;
         }
         place
     }
 
-    pub fn id(self) -> u8 {
+    pub const fn id(self) -> u8 {
         ROWS[self.place()].id
     }
 
     /// Words an entry.
-    pub fn words(self) -> usize {
+    pub const fn words(self) -> usize {
         ROWS[self.place()].words
     }
 
     /// Most entries.
-    pub fn most(self) -> usize {
+    pub const fn most(self) -> usize {
         ROWS[self.place()].most
     }
 
     /// The carried table of a block ID.
     pub fn of_id(id: u8) -> Option<Table> {
-        for row in &ROWS {
+        for row in ROWS {
             if row.id == id {
                 return Some(row.table);
             }
         }
         None
     }
+}
+
+/// The rows in ascending block ID, for who sends their blocks in that order.
+pub fn ascending() -> Vec<&'static Row> {
+    let mut rows: Vec<&Row> = ROWS.iter().collect();
+    rows.sort_by_key(|row| row.id);
+    rows
 }
 
 /// A field: bits top to bottom of the number that an entry's words make, low word first.
@@ -224,15 +233,13 @@ mod tests {
         assert_eq!(read_field(&entry, address_lookup::INDEX), 216);
     }
 
+    /// A second row of an ID or of a table would never be found.
     #[test]
-    fn the_rows_ascend_and_fill_the_entry_words() {
-        let mut words = 0;
-        for pair in ROWS.windows(2) {
-            assert!(pair[0].id < pair[1].id);
+    fn every_row_is_found_by_its_id_and_by_its_table() {
+        for (place, row) in ROWS.iter().enumerate() {
+            assert!(IDS_OF_TABLE_2.contains(&row.id));
+            assert_eq!(Table::of_id(row.id), Some(row.table));
+            assert_eq!(row.table.place(), place);
         }
-        for row in &ROWS {
-            words += row.words * row.most;
-        }
-        assert_eq!(words, 11_430);
     }
 }

@@ -42,14 +42,14 @@ fn refused_vectors_leave_zeros() {
 fn every_entry_stands_as_the_text_prints_it() {
     for name in ["01_min", "02_K", "06_rand", "13_maxfields", "15_mem929"] {
         let image = load(name, LoadAnswer::Loaded);
-        let mut expected_counts = [0; 9];
+        let mut expected_counts = [0; ROWS.len()];
         for line in text(name).lines() {
             if let Some((table, number)) = compare_entry(&image, line) {
                 assert_eq!(number, expected_counts[table.place()], "{name}: {line}");
                 expected_counts[table.place()] += 1;
             }
         }
-        for row in &ROWS {
+        for row in ROWS {
             assert_eq!(count(&image, row.table), expected_counts[row.table.place()]);
         }
         assert_eq!(image[MARK], 1);
