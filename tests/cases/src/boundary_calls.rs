@@ -1,19 +1,21 @@
 //! Both sides of each boundary that only calls can show: 30, 31, 32, 38, 39 and edited ledgers.
 
-use reference::image::{count_place, start_of, IMAGE_WORDS, MARK};
+use reference::image::{count_place, IMAGE_WORDS, MARK};
 use reference::judge::{judge, release, FrameAnswer, ReleaseAnswer};
 use reference::k;
 use reference::ledger::{fresh_ledger, Ledger, PortCounts, LAST_TIME};
 use reference::load::{load_bytes, load_words, write, LoadAnswer, LoadState, Phase};
 use reference::stream::{plain_stream, Lists};
-use reference::tables::{policing, put_field, Table, ROWS};
+use reference::tables::{policing, Table, ROWS};
 use reference::tile::{tile, TileAnswer};
 
 use crate::build::{open, Frame, A};
 use crate::case::Side;
+use crate::edit::put_value;
 use crate::generate::{random_config, Profile};
 use crate::named_calls::same;
 use crate::rng::Rng;
+use crate::rules::least_entries;
 use crate::tally::Tally;
 
 /// One round: every boundary, both sides.
@@ -32,7 +34,7 @@ pub fn run(rng: &mut Rng, tally: &mut Tally) {
 /// Counts a side and its refusal where it came out as it must.
 fn expect<T: PartialEq + std::fmt::Debug>(
     tally: &mut Tally,
-    boundary: &'static str,
+    boundary: &str,
     side: Side,
     got: T,
     expected: T,
@@ -83,7 +85,7 @@ fn tile_number(image: &[u32], ledger: &Ledger, port: u32) -> u32 {
     }
 }
 
-/// 31 of every call: 11,456 words are enough, 11,455 are not.
+/// 31 of every call: the image's words are enough, one word less is not.
 fn too_short(tally: &mut Tally) {
     let stream = plain_stream(&open());
     let bytes = reference::stream::bytes_of(&stream);
@@ -147,22 +149,11 @@ fn write_lengths(rng: &mut Rng, tally: &mut Tally) {
     }
 }
 
-const WRITE_COUNTS: [&str; 9] = [
-    "30 write, count of 05",
-    "30 write, count of 06",
-    "30 write, count of 07",
-    "30 write, count of 08",
-    "30 write, count of 09",
-    "30 write, count of 0D",
-    "30 write, count of 0E",
-    "30 write, count of 11",
-    "30 write, count of 4E",
-];
-
 /// 30 of a write: each count at its limit and above, between two blocks.
 fn write_counts(rng: &mut Rng, tally: &mut Tally) {
     let stream = plain_stream(&k::lists());
     for row in ROWS {
+        let boundary = format!("30 write, count of {:02X}", row.id);
         let most = row.most as u32;
         let above = rng.pick(&[most + 1, u32::MAX]);
         for (count, side) in [(most, Side::Passes), (above, Side::Refused)] {
@@ -176,7 +167,7 @@ fn write_counts(rng: &mut Rng, tally: &mut Tally) {
                 Side::Passes => LoadAnswer::More,
                 Side::Refused => LoadAnswer::Refused(30),
             };
-            expect(tally, WRITE_COUNTS[row.table.place()], side, answer, expected);
+            expect(tally, &boundary, side, answer, expected);
             if side == Side::Refused {
                 tally.refusal(30);
                 tally.result(same("30 leaves all", (image, after), (before, state)));
@@ -187,7 +178,7 @@ fn write_counts(rng: &mut Rng, tally: &mut Tally) {
 
 /// 30 of a write inside a block: count x words + placed + due at the room and above it.
 fn write_room(rng: &mut Rng, tally: &mut Tally) {
-    let row = &ROWS[rng.place(9)];
+    let row = &ROWS[rng.place(ROWS.len())];
     let words = row.words as u64;
     let room = words * row.most as u64;
     let count = rng.below(row.most as u64);
@@ -225,35 +216,28 @@ fn write_room(rng: &mut Rng, tally: &mut Tally) {
 }
 
 /// What a word of the image is put to, at which boundary, and on which side that is.
-type ImageEdit = (&'static str, usize, u32, Side);
+type ImageEdit = (String, usize, u32, Side);
 
-/// Each count that frames ask: its table, least and most.
-const FRAME_COUNTS: [(&str, Table, u32, u32); 9] = [
-    ("30 count of 05", Table::L2AddressLookup, 0, 1024),
-    ("30 count of 06", Table::L2Policing, 1, 45),
-    ("30 count of 07", Table::VlanLookup, 1, 4096),
-    ("30 count of 08", Table::L2Forwarding, 13, 13),
-    ("30 count of 09", Table::MacConfiguration, 5, 5),
-    ("30 count of 0D", Table::L2LookupParameters, 0, 1),
-    ("30 count of 0E", Table::L2ForwardingParameters, 1, 1),
-    ("30 count of 11", Table::GeneralParameters, 1, 1),
-    ("30 count of 4E", Table::XmiiModeParameters, 1, 1),
-];
-
+/// The mark, and each count that frames ask: its least and its most.
 fn image_edits(rng: &mut Rng) -> Vec<ImageEdit> {
+    let mark = || "30 mark".to_string();
     let mut edits = vec![
-        ("30 mark", MARK, 1, Side::Passes),
-        ("30 mark", MARK, 0, Side::Refused),
-        ("30 mark", MARK, rng.pick(&[2, 3, 256, u32::MAX]), Side::Refused),
+        (mark(), MARK, 1, Side::Passes),
+        (mark(), MARK, 0, Side::Refused),
+        (mark(), MARK, rng.pick(&[2, 3, 256, u32::MAX]), Side::Refused),
     ];
-    for (boundary, table, least, most) in FRAME_COUNTS {
-        let place = count_place(table);
-        edits.push((boundary, place, least, Side::Passes));
-        edits.push((boundary, place, most, Side::Passes));
-        edits.push((boundary, place, most + 1, Side::Refused));
-        edits.push((boundary, place, u32::MAX, Side::Refused));
+    for row in ROWS {
+        let (least, most) = (least_entries(row.table) as u32, row.most as u32);
+        let mut edit = |count, side| {
+            let boundary = format!("30 count of {:02X}", row.id);
+            edits.push((boundary, count_place(row.table), count, side));
+        };
+        edit(least, Side::Passes);
+        edit(most, Side::Passes);
+        edit(most + 1, Side::Refused);
+        edit(u32::MAX, Side::Refused);
         if least > 0 {
-            edits.push((boundary, place, least - 1, Side::Refused));
+            edit(least - 1, Side::Refused);
         }
     }
     edits
@@ -273,7 +257,7 @@ fn marks_and_counts(rng: &mut Rng, tally: &mut Tally) {
             release_number(&image, &ledger, 0),
             tile_number(&image, &ledger, 0),
         ];
-        expect(tally, boundary, side, numbers, [number; 4]);
+        expect(tally, &boundary, side, numbers, [number; 4]);
         if side == Side::Refused {
             tally.refusal(30);
         }
@@ -439,8 +423,7 @@ fn shared_entries(rng: &mut Rng, tally: &mut Tally) {
     {
         let mut image = loaded(&open());
         image[count_place(Table::L2Policing)] = entries as u32;
-        let first = start_of(Table::L2Policing);
-        put_field(&mut image[first..first + 2], policing::SHARINDX, shared);
+        put_value(&mut image, policing::SHARINDX, 0, shared);
         let ledger = fresh(&image);
         let (told, _) = drop_number(tally, &image, &ledger, 60);
         expect(tally, "drop 7 SHARINDX", side, told, number);

@@ -4,13 +4,14 @@ use reference::crc;
 use reference::k;
 use reference::stream::{bytes_of, Block, Lists, DEVICE_ID};
 use reference::tables::{address_lookup, forwarding_parameters, mac_configuration, policing};
-use reference::tables::{Table, ROWS};
+use reference::tables::{Table, IDS_OF_TABLE_2, ROWS};
 
-use crate::build::{open, with, with_vlan, A, B};
-use crate::case::{Case, Side};
+use crate::build::{open, refusal_of_id, with, with_vlan, A, B};
+use crate::case::Case;
 use crate::damage::{blocks_in, flip, rearranged};
 use crate::generate::{random_config, Profile};
 use crate::rng::Rng;
+use crate::rules::NEEDED;
 
 pub fn cases(rng: &mut Rng) -> Vec<Case> {
     let mut cases = framing(rng);
@@ -66,48 +67,31 @@ fn header(rng: &mut Rng, id: u8, length: u32) -> Vec<u32> {
     vec![DEVICE_ID, header[0], header[1], crc::of_words(&header)]
 }
 
+/// Neighbours: at the ends of table 2 in it or not, inside it carried or not.
 fn ids(rng: &mut Rng) -> Vec<Case> {
+    let ends: [u8; 7] = [0x12, 0x13, 0x4D, 0x4E, 0x4F, 0x00, 0xFF];
+    let mut neighbours = ends.map(|id| (id, "3 ID in table 2", 3)).to_vec();
+    for pair in IDS_OF_TABLE_2.windows(2) {
+        if refusal_of_id(pair[0]) == refusal_of_id(pair[1]) {
+            continue;
+        }
+        for &id in pair {
+            if neighbours.iter().all(|(known, ..)| *known != id) {
+                neighbours.push((id, "4 ID carried", 4));
+            }
+        }
+    }
     let mut cases = Vec::new();
-    // Neighbours: in table 2 or not, carried or not; a header that passes waits for its data.
-    let neighbours: [(u8, u32, &str, Side); 17] = [
-        (0x12, 4, "3 ID in table 2", Side::Passes),
-        (0x13, 3, "3 ID in table 2", Side::Refused),
-        (0x4D, 3, "3 ID in table 2", Side::Refused),
-        (0x4E, 10, "3 ID in table 2", Side::Passes),
-        (0x4F, 3, "3 ID in table 2", Side::Refused),
-        (0x00, 4, "3 ID in table 2", Side::Passes),
-        (0xFF, 3, "3 ID in table 2", Side::Refused),
-        (0x04, 4, "4 ID carried", Side::Refused),
-        (0x05, 10, "4 ID carried", Side::Passes),
-        (0x09, 10, "4 ID carried", Side::Passes),
-        (0x0A, 4, "4 ID carried", Side::Refused),
-        (0x0C, 4, "4 ID carried", Side::Refused),
-        (0x0D, 10, "4 ID carried", Side::Passes),
-        (0x0E, 10, "4 ID carried", Side::Passes),
-        (0x0F, 4, "4 ID carried", Side::Refused),
-        (0x10, 4, "4 ID carried", Side::Refused),
-        (0x11, 10, "4 ID carried", Side::Passes),
-    ];
-    for (id, number, boundary, side) in neighbours {
+    for (id, boundary, beyond) in neighbours {
         let length = Table::of_id(id).map_or(1, |table| table.words() as u32);
         let words = header(rng, id, length);
+        let number = refusal_of_id(id);
         let case = Case::of_words(&format!("neighbour_{id:02x}"), "001, table 2", &words);
-        cases.push(Case { side: Some((boundary, side)), ..case.refused(number) });
+        let case = case.refused(number);
+        cases.push(if number == beyond { case.beyond(boundary) } else { case.passes(boundary) });
     }
     cases
 }
-
-const SIX: [&str; 9] = [
-    "6 most entries of 05",
-    "6 most entries of 06",
-    "6 most entries of 07",
-    "6 most entries of 08",
-    "6 most entries of 09",
-    "6 most entries of 0D",
-    "6 most entries of 0E",
-    "6 most entries of 11",
-    "6 most entries of 4E",
-];
 
 fn lengths(rng: &mut Rng) -> Vec<Case> {
     let mut cases = Vec::new();
@@ -125,10 +109,10 @@ fn lengths(rng: &mut Rng) -> Vec<Case> {
         for held in [0, held] {
             let earlier = vec![0; (held * words) as usize];
             let fits = (most - held) * words;
-            let boundary = SIX[row.table.place()];
-            cases.push(length_case(rng, row.id, &earlier, fits, 10).passes(boundary));
+            let boundary = format!("6 most entries of {:02X}", row.id);
+            cases.push(length_case(rng, row.id, &earlier, fits, 10).passes(&boundary));
             let above = fits + words;
-            cases.push(length_case(rng, row.id, &earlier, above, 6).beyond(boundary));
+            cases.push(length_case(rng, row.id, &earlier, above, 6).beyond(&boundary));
         }
     }
     cases
@@ -147,17 +131,9 @@ fn length_case(rng: &mut Rng, id: u8, earlier: &[u32], length: u32, number: u32)
 
 /// Each count that rule 20 asks, at its least and one below.
 fn rule_20(rng: &mut Rng) -> Vec<Case> {
-    let asked = [
-        (Table::L2Policing, 1, "20 count of 06"),
-        (Table::VlanLookup, 1, "20 count of 07"),
-        (Table::L2Forwarding, 13, "20 count of 08"),
-        (Table::MacConfiguration, 5, "20 count of 09"),
-        (Table::L2ForwardingParameters, 1, "20 count of 0E"),
-        (Table::GeneralParameters, 1, "20 count of 11"),
-        (Table::XmiiModeParameters, 1, "20 count of 4E"),
-    ];
     let mut cases = Vec::new();
-    for (table, least, boundary) in asked {
+    for &(table, least) in NEEDED {
+        let boundary = format!("20 count of {:02X}", table.id());
         let mut lists = k::lists();
         lists.of_mut(table).truncate(least);
         if table == Table::L2Policing {
@@ -165,11 +141,11 @@ fn rule_20(rng: &mut Rng) -> Vec<Case> {
         }
         let name = format!("count_{:02x}", table.id());
         let words = rearranged(rng, &lists);
-        cases.push(Case::of_words(&name, "rule 20", &words).loaded().passes(boundary));
+        cases.push(Case::of_words(&name, "rule 20", &words).loaded().passes(&boundary));
         lists.of_mut(table).truncate(least - 1);
         let words = rearranged(rng, &lists);
         let case = Case::of_words(&name, "rule 20", &words);
-        cases.push(case.refused(20).beyond(boundary));
+        cases.push(case.refused(20).beyond(&boundary));
     }
     cases
 }
@@ -178,7 +154,7 @@ fn rule_20(rng: &mut Rng) -> Vec<Case> {
 fn rule_pair(
     rng: &mut Rng,
     rule: u32,
-    boundary: &'static str,
+    boundary: &str,
     loads: &Lists,
     refused: &Lists,
 ) -> Vec<Case> {

@@ -4,7 +4,7 @@ use reference::k;
 use reference::list::HEAD;
 use reference::stream::Lists;
 use reference::tables::{address_lookup, forwarding_parameters, lookup_parameters, vlan_lookup};
-use reference::tables::{Field, Table};
+use reference::tables::{Field, Table, IDS_OF_TABLE_2};
 
 /// Addresses that frames and tables have in common.
 pub const A: u64 = 0x0200_0000_000A;
@@ -160,4 +160,21 @@ pub fn with_shared_learn(lists: Lists) -> Lists {
     let number = lists.push_zero(Table::L2LookupParameters);
     lists.put(lookup_parameters::SHARED_LEARN, number, 1);
     lists
+}
+
+/// What a right header with this ID is told where no data follows: 3, 4, or 10 if it is carried.
+pub fn refusal_of_id(id: u8) -> u32 {
+    let in_table_2 = id <= 0x12 || id == 0x4E;
+    match (in_table_2, Table::of_id(id)) {
+        (false, _) => 3,
+        (true, None) => 4,
+        (true, Some(_)) => 10,
+    }
+}
+
+/// The first ID of table 2 whose table is not carried, one in the middle, and the last.
+pub fn not_carried() -> [u8; 3] {
+    let ids: Vec<u8> =
+        IDS_OF_TABLE_2.into_iter().filter(|&id| Table::of_id(id).is_none()).collect();
+    [ids[0], ids[ids.len() / 2], ids[ids.len() - 1]]
 }

@@ -37,7 +37,7 @@ pub struct Case {
     pub list: Vec<u8>,
     pub expect: Expect,
     /// The boundary it stands at, where it stands at one.
-    pub side: Option<(&'static str, Side)>,
+    pub side: Option<(String, Side)>,
 }
 
 impl Case {
@@ -90,16 +90,16 @@ impl Case {
         Case { expect, ..self }
     }
 
-    pub fn passes(self, boundary: &'static str) -> Case {
+    pub fn passes(self, boundary: &str) -> Case {
         self.at(boundary, Side::Passes)
     }
 
-    pub fn beyond(self, boundary: &'static str) -> Case {
+    pub fn beyond(self, boundary: &str) -> Case {
         self.at(boundary, Side::Refused)
     }
 
-    fn at(self, boundary: &'static str, side: Side) -> Case {
-        Case { side: Some((boundary, side)), ..self }
+    fn at(self, boundary: &str, side: Side) -> Case {
+        Case { side: Some((boundary.to_string(), side)), ..self }
     }
 
     /// What the reference prints, or how that differs from what is expected.

@@ -2,6 +2,7 @@
 
 use crate::case::Case;
 use crate::rng::Rng;
+use crate::rules::RULES;
 use crate::tally::Tally;
 use crate::{boundaries, boundary_calls, generate, named_calls, named_frames, named_program};
 use crate::{fixed, named_streams, properties};
@@ -47,7 +48,7 @@ pub fn generated(rng: &mut Rng, number: usize) -> Case {
     let profile = match rng.below(16) {
         0 => generate::Profile::Wild,
         1..=3 => generate::Profile::Valid,
-        4 => generate::Profile::Breaks(rng.between(20, 25) as u32),
+        4 => generate::Profile::Breaks(rng.pick(RULES)),
         _ => generate::Profile::Near,
     };
     let lists = generate::random_config(rng, profile);
@@ -70,6 +71,7 @@ fn finish(tally: Tally) -> bool {
 #[cfg(test)]
 mod tests {
     use super::*;
+    use crate::tally::{boundaries, refusals};
 
     #[test]
     fn named_cases_hold() {
@@ -85,8 +87,8 @@ mod tests {
 
     #[test]
     fn what_is_not_hit_is_told() {
-        // 26 refusals of the program, 5 of calls, 11 drops, two sides of each boundary.
+        // Every refusal, 11 drops, two sides of each boundary.
         let missed = Tally::default().missed();
-        assert_eq!(missed.len(), 26 + 5 + 11 + 2 * crate::tally::BOUNDARIES.len());
+        assert_eq!(missed.len(), refusals().len() + 11 + 2 * boundaries().len());
     }
 }

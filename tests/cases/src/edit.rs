@@ -1,9 +1,9 @@
 //! Edited images, ledgers and load states: what no load gives, for the refusals of calls.
 
-use reference::image::{count, count_place, FIRST_COUNT, IMAGE_WORDS, MARK};
+use reference::image::{count, count_place, start_of, FIRST_COUNT, IMAGE_WORDS, MARK};
 use reference::ledger::{most_credit, most_units, Ledger, LAST_TIME};
 use reference::load::{LoadAnswer, LoadState, Phase};
-use reference::tables::{forwarding_parameters, policing, put_field, vlan_lookup, Table, ROWS};
+use reference::tables::{policing, put_field, vlan_lookup, Field, Table, ROWS};
 
 use crate::rng::Rng;
 
@@ -13,7 +13,7 @@ pub fn edited_image(rng: &mut Rng, image: &[u32]) -> Vec<u32> {
     match rng.below(8) {
         0 => edited[MARK] = rng.pick(&[0, 2, 0x0100_0000, u32::MAX]),
         1 => {
-            let row = &ROWS[rng.place(9)];
+            let row = &ROWS[rng.place(ROWS.len())];
             let most = row.most as u32;
             edited[count_place(row.table)] = rng.pick(&[0, 1, most - 1, most, most + 1, u32::MAX]);
         }
@@ -33,27 +33,26 @@ pub fn edited_image(rng: &mut Rng, image: &[u32]) -> Vec<u32> {
     edited
 }
 
+/// A field of one entry put to this value, whether a load gives it or not.
+pub fn put_value(image: &mut [u32], field: Field, number: usize, value: u64) {
+    let first = start_of(field.table) + number * field.table.words();
+    put_field(&mut image[first..first + field.table.words()], field, value);
+}
+
 /// SHARINDX of some entry at any of its 64 values.
 fn put_shared(rng: &mut Rng, image: &mut [u32]) {
-    let start = reference::image::start_of(Table::L2Policing) + 2 * rng.place(45);
+    let number = rng.place(Table::L2Policing.most());
     let shared = rng.below(64);
-    put_field(&mut image[start..start + 2], policing::SHARINDX, shared);
+    put_value(image, policing::SHARINDX, number, shared);
 }
 
 /// Two VLAN entries with one VLANID.
 fn put_twin_vlan(rng: &mut Rng, image: &mut [u32]) {
-    let start = reference::image::start_of(Table::VlanLookup) + 2 * rng.place(4);
+    let number = rng.place(4);
     let vlan = rng.pick(&crate::generate::VLANS);
-    put_field(&mut image[start..start + 2], vlan_lookup::VLANID, vlan);
+    put_value(image, vlan_lookup::VLANID, number, vlan);
     let entries = count(image, Table::VlanLookup) as u32;
     image[count_place(Table::VlanLookup)] = entries.max(4);
-}
-
-/// PART_SPC of some partition at any of its 1,024 values.
-pub fn put_part_spc(image: &mut [u32], partition: usize, units: u64) {
-    let start = reference::image::start_of(Table::L2ForwardingParameters);
-    let entry = &mut image[start..start + 3];
-    put_field(entry, forwarding_parameters::part_spc(partition), units);
 }
 
 /// One random edit of a ledger, at and around the bounds of refusal 39. The image is a loaded one.
@@ -109,7 +108,7 @@ pub fn edited_state(rng: &mut Rng, state: &LoadState) -> LoadState {
                 Phase::DataChecksum,
             ]);
         }
-        3 => edited.table = ROWS[rng.place(9)].table,
+        3 => edited.table = ROWS[rng.place(ROWS.len())].table,
         4 => {
             edited.data_register = rng.word();
             edited.global_register = rng.word();

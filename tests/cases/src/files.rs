@@ -46,7 +46,7 @@ pub fn all(seed: u64, generated_cases: usize) -> Vec<Case> {
     cases
 }
 
-/// Full tables; the first stream with every entry in a block of its own, 32,182 words.
+/// Full tables; the first stream with every entry in a block of its own, the longest that loads.
 fn full(rng: &mut Rng) -> Vec<Case> {
     let mut cases = Vec::new();
     for number in 0..FULL_STREAMS {
@@ -63,7 +63,7 @@ fn full(rng: &mut Rng) -> Vec<Case> {
 mod tests {
     use super::*;
 
-    /// The longest stream that can load, as the decisions count it.
+    /// A pin: the longest stream that can load, as the decisions count it.
     #[test]
     fn the_longest_stream_has_32182_words() {
         let lists = random_config(&mut Rng::new(1), Profile::Full);

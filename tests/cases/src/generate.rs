@@ -8,6 +8,7 @@ use reference::tables::{mac_configuration, policing, vlan_lookup, Table, ROWS};
 use crate::build::{Frame, List, A, B, BROADCAST, C};
 use crate::damage::{flip, rearranged, reordered};
 use crate::rng::Rng;
+use crate::rules::NEEDED;
 
 /// What kind of configuration is wanted.
 #[derive(Clone, Copy, PartialEq, Eq, Debug)]
@@ -35,14 +36,18 @@ pub fn random_config(rng: &mut Rng, profile: Profile) -> Lists {
         Profile::Near => near(rng),
         Profile::Valid => {
             let addresses = rng.between(0, 12) as usize;
-            let policing = rng.between(1, 45) as usize;
+            let policing = rng.between(1, Table::L2Policing.most() as u64) as usize;
             let vlans = rng.between(1, 24) as usize;
             valid(rng, addresses, policing, vlans)
         }
         Profile::Full => {
-            let mut lists = valid(rng, 1024, 45, 4096);
-            if lists.of(Table::L2LookupParameters).is_empty() {
-                lists.push_zero(Table::L2LookupParameters);
+            let [addresses, policing, vlans] =
+                [Table::L2AddressLookup, Table::L2Policing, Table::VlanLookup].map(Table::most);
+            let mut lists = valid(rng, addresses, policing, vlans);
+            for row in ROWS {
+                while lists.of(row.table).len() < row.most {
+                    lists.push_zero(row.table);
+                }
             }
             lists
         }
@@ -71,16 +76,17 @@ fn push_any(rng: &mut Rng, lists: &mut Lists, table: Table, entries: usize) {
 /// Any words in every table, then mended until all rules are kept.
 fn valid(rng: &mut Rng, addresses: usize, policing_entries: usize, vlans: usize) -> Lists {
     let mut lists = Lists::default();
-    push_any(rng, &mut lists, Table::L2AddressLookup, addresses);
-    push_any(rng, &mut lists, Table::L2Policing, policing_entries);
-    push_any(rng, &mut lists, Table::VlanLookup, vlans);
-    push_any(rng, &mut lists, Table::L2Forwarding, 13);
-    push_any(rng, &mut lists, Table::MacConfiguration, 5);
-    let with_lookup_parameters = rng.place(2);
-    push_any(rng, &mut lists, Table::L2LookupParameters, with_lookup_parameters);
-    push_any(rng, &mut lists, Table::L2ForwardingParameters, 1);
-    push_any(rng, &mut lists, Table::GeneralParameters, 1);
-    push_any(rng, &mut lists, Table::XmiiModeParameters, 1);
+    for row in ROWS {
+        let entries = match row.table {
+            Table::L2AddressLookup => addresses,
+            Table::L2Policing => policing_entries,
+            Table::VlanLookup => vlans,
+            // It may be absent.
+            Table::L2LookupParameters => rng.place(2),
+            _ => row.most,
+        };
+        push_any(rng, &mut lists, row.table, entries);
+    }
     mend(rng, &mut lists);
     lists
 }
@@ -293,21 +299,9 @@ pub fn break_rule(rng: &mut Rng, lists: &mut Lists, rule: u32) {
 
 /// One clause of rule 20.
 fn break_20(rng: &mut Rng, lists: &mut Lists) {
-    match rng.below(7) {
-        0 => lists.of_mut(Table::L2Policing).clear(),
-        1 => lists.of_mut(Table::VlanLookup).clear(),
-        2 => {
-            let entries = rng.place(13);
-            lists.of_mut(Table::L2Forwarding).truncate(entries);
-        }
-        3 => {
-            let entries = rng.place(5);
-            lists.of_mut(Table::MacConfiguration).truncate(entries);
-        }
-        4 => lists.of_mut(Table::L2ForwardingParameters).clear(),
-        5 => lists.of_mut(Table::GeneralParameters).clear(),
-        _ => lists.of_mut(Table::XmiiModeParameters).clear(),
-    }
+    let (table, least) = rng.pick(NEEDED);
+    let entries = if least > 1 { rng.place(least) } else { 0 };
+    lists.of_mut(table).truncate(entries);
 }
 
 /// A stream of these lists, mostly whole: plain, reordered or rearranged; sometimes damaged.

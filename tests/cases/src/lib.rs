@@ -21,4 +21,5 @@ pub mod named_program;
 pub mod named_streams;
 pub mod properties;
 pub mod rng;
+pub mod rules;
 pub mod tally;

@@ -1,19 +1,18 @@
 //! Named cases that only calls can tell apart: writes and load states, edited images and ledgers.
 //! Each gives Ok, or says what came out otherwise than its clause has it.
 
-use reference::image::{self, count_place, make_zero, start_of, IMAGE_WORDS, MARK};
+use reference::image::{count_place, make_zero, start_of, IMAGE_WORDS, MARK};
 use reference::judge::{judge, release, FrameAnswer, ReleaseAnswer};
 use reference::k;
 use reference::ledger::{fresh_ledger, no_ledger, Ledger, METERS};
 use reference::load::{load_bytes, load_words, write, LoadAnswer, LoadState};
 use reference::stream::{plain_stream, Lists};
-use reference::tables::{
-    address_lookup, mac_configuration, policing, put_field, vlan_lookup, Table,
-};
+use reference::tables::{address_lookup, forwarding_parameters, mac_configuration, policing};
+use reference::tables::{vlan_lookup, Table};
 use reference::tile::{tile, TileAnswer};
 
 use crate::build::{open, with_address, with_vlan, Address, Frame, A, B, C};
-use crate::edit::put_part_spc;
+use crate::edit::put_value;
 
 pub type CallCase = (&'static str, &'static str, fn() -> Result<(), String>);
 
@@ -79,7 +78,7 @@ fn begun(words: usize) -> (Vec<u32>, LoadState) {
     (image, state)
 }
 
-const POLICING_COUNT: usize = image::FIRST_COUNT + 1;
+const POLICING_COUNT: usize = count_place(Table::L2Policing);
 
 /// K's first block is 06 with 45 entries: words 1 to 3 header, 4 to 93 data, 94 checksum.
 fn count_rises_with_the_checksum() -> Result<(), String> {
@@ -164,7 +163,7 @@ fn refusals_before_a_repeated_answer() -> Result<(), String> {
         same("31", write(&mut short, state, &[1]).0, LoadAnswer::Refused(31))?;
         same("32", write(&mut image, state, &[]).0, LoadAnswer::Refused(32))?;
         same("repeated", write(&mut image, state, &[1]), (answer, state))?;
-        image[image::FIRST_COUNT] = 1025;
+        image[count_place(Table::L2AddressLookup)] = 1025;
         same("30", write(&mut image, state, &[1]).0, LoadAnswer::Refused(30))?;
     }
     Ok(())
@@ -252,6 +251,7 @@ fn refusals_9_and_31_leave_all() -> Result<(), String> {
     same("short image", short, vec![3; IMAGE_WORDS - 1])
 }
 
+/// The pin of all positions, the only one: everywhere else they follow from the rows.
 /// By hand: 05 at 0, 06 at 3072, 07 at 3162, 08 at 11354, 09 at 11380, 0D at 11415, 0E at 11416,
 /// 11 at 11419, 4E at 11429; counts from 11430, mark at 11439, zeros to 11455.
 fn layout_of_the_image() -> Result<(), String> {
@@ -324,15 +324,11 @@ fn rules_21_to_25_are_not_asked_again() -> Result<(), String> {
     let lists = with_address(open(), address(C, 1, 3));
     let mut image = loaded(&with_address(lists, address(C, 1, 4)));
     for partition in 0..8 {
-        put_part_spc(&mut image, partition, 1023);
+        put_value(&mut image, forwarding_parameters::part_spc(partition), 0, 1023);
     }
-    put_field(&mut image[3..6], address_lookup::INDEX, 3);
-    let last_port = start_of(Table::MacConfiguration) + 4 * 7;
-    let entry = &mut image[last_port..last_port + 7];
-    put_field(entry, mac_configuration::VLANID, 99);
-    let last_policing = start_of(Table::L2Policing) + 44 * 2;
-    let entry = &mut image[last_policing..last_policing + 2];
-    put_field(entry, policing::SHARINDX, 63);
+    put_value(&mut image, address_lookup::INDEX, 1, 3);
+    put_value(&mut image, mac_configuration::VLANID, 4, 99);
+    put_value(&mut image, policing::SHARINDX, 44, 63);
     same("judged", ports_or_drop(&image, &Frame::to(A))?, 30)?;
     let ledger = fresh_ledger(&image).map_err(|number| format!("refused {number}"))?;
     same("units", ledger.units, [1023; 8])?;
@@ -391,8 +387,7 @@ fn ports_or_drop(image: &[u32], frame: &Frame) -> Result<i64, String> {
 /// A second VLAN 1 that lets only port 1 send, put behind the first by an edit.
 fn first_of_twin_vlans() -> Result<(), String> {
     let mut image = loaded(&with_vlan(open(), 2, 0b00010, 0b00010, 0));
-    let second = start_of(Table::VlanLookup) + 2;
-    put_field(&mut image[second..second + 2], vlan_lookup::VLANID, 1);
+    put_value(&mut image, vlan_lookup::VLANID, 1, 1);
     same("first counts", ports_or_drop(&image, &Frame::to(A))?, 30)
 }
 
@@ -400,15 +395,14 @@ fn first_of_twin_indexes() -> Result<(), String> {
     let lists = with_address(open(), address(A, 0b00010, 8));
     let lists = with_address(lists, address(A, 0b00100, 9));
     let mut image = loaded(&lists);
-    put_field(&mut image[3..6], address_lookup::INDEX, 8);
+    put_value(&mut image, address_lookup::INDEX, 1, 8);
     same("first counts", ports_or_drop(&image, &Frame::to(A))?, 2)
 }
 
 fn sharindx_63_is_drop_7() -> Result<(), String> {
     let mut image = loaded(&open());
-    let first = start_of(Table::L2Policing);
     for (sharindx, expected) in [(44, 30), (45, -7), (63, -7)] {
-        put_field(&mut image[first..first + 2], policing::SHARINDX, sharindx);
+        put_value(&mut image, policing::SHARINDX, 0, sharindx);
         same("SHARINDX", ports_or_drop(&image, &Frame::to(A))?, expected)?;
     }
     Ok(())

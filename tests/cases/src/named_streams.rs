@@ -8,9 +8,11 @@ use reference::stream::{Block, End, Lists, DEVICE_ID};
 use reference::tables::{address_lookup, forwarding_parameters, mac_configuration, policing};
 use reference::tables::{vlan_lookup, Table, ROWS};
 
-use crate::build::{open_with, with, with_address, with_vlan, Address, A, B};
+use crate::build::{not_carried, open_with, refusal_of_id, with, with_address, with_vlan};
+use crate::build::{Address, A, B};
 use crate::case::Case;
 use crate::damage::one_entry_a_block;
+use crate::rules::{least_entries, RULES};
 
 const HEADERS: &str = "decisions, The stream: 2 to 6 are told at the third header word";
 const END: &str = "decisions, The stream: an end block by bits 23:0 of its second word alone";
@@ -20,7 +22,7 @@ const ENDINGS: &str = "decisions, The stream: no words 10; a refusal told beats 
 const BYTES: &str = "decisions, The stream: 9 counts all bytes and comes before 1";
 const LINEAR: &str = "decisions, The stream: checksums are linear";
 const ORDER: &str = "document 01, framing in order 8, else 2, 3, 4, 5, 6, 7";
-const RULES: &str = "decisions, The stream: rules 22 to 25";
+const RULES_22_TO_25: &str = "decisions, The stream: rules 22 to 25";
 const FREE: &str = "document 01, The stream: other header bits are free; blocks in any order";
 
 pub fn cases() -> Vec<Case> {
@@ -53,11 +55,12 @@ fn headers() -> Vec<Case> {
     let two_words = [DEVICE_ID, 0x7700_0000, 5];
     let mut wrong = header_alone(0x07, 2);
     wrong[3] ^= 1;
+    let [.., last_id] = not_carried();
     vec![
         Case::of_words("id_77_without_third_word", HEADERS, &two_words).refused(10),
         Case::of_words("header_alone_tells_2", HEADERS, &wrong).refused(2),
         Case::of_words("header_alone_tells_3", HEADERS, &header_alone(0x77, 5)).refused(3),
-        Case::of_words("header_alone_tells_4", HEADERS, &header_alone(0x12, 2)).refused(4),
+        Case::of_words("header_alone_tells_4", HEADERS, &header_alone(last_id, 2)).refused(4),
         Case::of_words("header_alone_tells_5", HEADERS, &header_alone(0x07, 3)).refused(5),
         Case::of_words("header_alone_tells_6", HEADERS, &header_alone(0x07, 8194)).refused(6),
         Case::of_words("header_alone_passes", HEADERS, &header_alone(0x07, 2)).refused(10),
@@ -69,15 +72,8 @@ fn every_id() -> Vec<Case> {
     let mut cases = Vec::new();
     for id in 0..=255 {
         let length = Table::of_id(id).map_or(1, |table| table.words() as u32);
-        let carried = [0x05, 0x06, 0x07, 0x08, 0x09, 0x0D, 0x0E, 0x11, 0x4E].contains(&id);
-        let in_table_2 = id <= 0x12 || id == 0x4E;
-        let number = match (in_table_2, carried) {
-            (false, _) => 3,
-            (true, false) => 4,
-            (true, true) => 10,
-        };
-        let words = header_alone(id, length);
-        cases.push(Case::of_words(&format!("id_{id:02x}"), TABLE_2, &words).refused(number));
+        let case = Case::of_words(&format!("id_{id:02x}"), TABLE_2, &header_alone(id, length));
+        cases.push(case.refused(refusal_of_id(id)));
     }
     cases
 }
@@ -214,6 +210,7 @@ fn order() -> Vec<Case> {
         words[3] ^= 0x0001_0000;
         words
     };
+    let [first_id, middle_id, _] = not_carried();
     let mut word_0 = wrong(0x77, 3);
     word_0[0] = 0;
     let mut two_blocks = vec![DEVICE_ID];
@@ -226,11 +223,12 @@ fn order() -> Vec<Case> {
     vec![
         Case::of_words("1_before_2", ORDER, &word_0).refused(1),
         Case::of_words("2_before_3", ORDER, &wrong(0x77, 3)).refused(2),
-        Case::of_words("2_before_4", ORDER, &wrong(0x0A, 3)).refused(2),
+        Case::of_words("2_before_4", ORDER, &wrong(middle_id, 3)).refused(2),
         Case::of_words("2_before_5", ORDER, &wrong(0x07, 3)).refused(2),
         Case::of_words("2_before_6", ORDER, &wrong(0x07, 8194)).refused(2),
         Case::of_words("3_whatever_the_length", ORDER, &header_alone(0x13, 0xFF_FFFF)).refused(3),
-        Case::of_words("4_whatever_the_length", ORDER, &header_alone(0x00, 0xFF_FFFF)).refused(4),
+        Case::of_words("4_whatever_the_length", ORDER, &header_alone(first_id, 0xFF_FFFF))
+            .refused(4),
         Case::of_words("5_before_6_in_05", ORDER, &header_alone(0x05, 3074)).refused(5),
         Case::of_words("6_in_05", ORDER, &header_alone(0x05, 3075)).refused(6),
         Case::of_words("7_before_the_next_block", ORDER, &two_blocks).refused(7),
@@ -270,7 +268,7 @@ fn address(index: u64, address: u64, vlan: u64) -> Address {
 }
 
 fn rules() -> Vec<Case> {
-    let of_lists = |name, lists: &Lists| Case::of_lists(name, RULES, lists);
+    let of_lists = |name, lists: &Lists| Case::of_lists(name, RULES_22_TO_25, lists);
     let closed = [
         (mac_configuration::INGRESS, 3, 0),
         (mac_configuration::EGRESS, 3, 0),
@@ -296,15 +294,16 @@ fn rules() -> Vec<Case> {
         of_lists("24_adds_all_eight_930", &sum_930).refused(24),
         of_lists("25_one_address_two_indexes", &twins).loaded(),
         of_lists("25_two_addresses_one_index", &one_index).refused(25),
-        Case::of_words("23_final_count", RULES, &stream_of(&blocks, End::default())).loaded(),
+        Case::of_words("23_final_count", RULES_22_TO_25, &stream_of(&blocks, End::default()))
+            .loaded(),
     ];
-    // An absent table is no zero entry: only 05 and 0D may be absent.
+    // An absent table is no zero entry: only one that rule 20 does not ask for may be absent.
     for row in ROWS {
         let mut lists = k::lists();
         lists.of_mut(row.table).clear();
         let name = format!("20_without_{:02x}", row.id);
         let case = Case::of_lists(&name, "document 01, rule 20", &lists);
-        let optional = row.id == 0x05 || row.id == 0x0D;
+        let optional = least_entries(row.table) == 0;
         cases.push(if optional { case.loaded() } else { case.refused(20) });
     }
     cases
@@ -330,14 +329,14 @@ fn breach(lists: &mut Lists, rule: u32) {
     }
 }
 
-/// Two rules broken at once: the lower number is told.
+/// Two rules broken at once: the one that is asked first is told.
 fn rule_pairs() -> Vec<Case> {
     let mut cases = Vec::new();
-    for first in 20..=25 {
-        for second in first..=25 {
+    for (turn, &first) in RULES.iter().enumerate() {
+        for &second in &RULES[turn..] {
             let mut lists = k::lists();
             breach(&mut lists, first);
-            if second > first {
+            if second != first {
                 breach(&mut lists, second);
             }
             let name = format!("rules_{first}_and_{second}");

@@ -13,6 +13,7 @@ use crate::generate::{later, random_config, random_cutting, random_frame, random
 use crate::named_calls::same;
 use crate::named_program::nearest_share;
 use crate::rng::Rng;
+use crate::rules::RULES;
 use crate::tally::Tally;
 
 /// One seeded round.
@@ -38,7 +39,7 @@ fn random_profile(rng: &mut Rng) -> Profile {
         1..=12 => Profile::Near,
         13..=22 => Profile::Valid,
         23..=28 => Profile::Wild,
-        _ => Profile::Breaks(rng.between(20, 25) as u32),
+        _ => Profile::Breaks(rng.pick(RULES)),
     }
 }
 

@@ -2,66 +2,33 @@
 
 use std::collections::BTreeMap;
 
+use reference::tables::ROWS;
+
 use crate::case::{Case, Side};
+use crate::rules::{NEEDED, RULES};
 
-/// Refusals that a run of the program can give.
-pub const PROGRAM_REFUSALS: [u32; 26] =
-    [1, 2, 3, 4, 5, 6, 7, 8, 9, 10, 20, 21, 22, 23, 24, 25, 33, 34, 35, 36, 37, 50, 51, 52, 53, 54];
-
-/// Refusals that only a call can give.
-pub const CALL_REFUSALS: [u32; 5] = [30, 31, 32, 38, 39];
-
-/// Boundaries of which both sides must be hit.
-pub const BOUNDARIES: [&str; 109] = [
+/// Boundaries of which both sides must be hit. A name with `{row}` is one for each row, with its
+/// ID; one with `{needed}` is one for each table that rule 20 asks for.
+const BOUNDARIES: &[&str] = &[
     "1 word 0",
     "2 header checksum",
     "3 ID in table 2",
     "4 ID carried",
     "5 whole entries",
-    "6 most entries of 05",
-    "6 most entries of 06",
-    "6 most entries of 07",
-    "6 most entries of 08",
-    "6 most entries of 09",
-    "6 most entries of 0D",
-    "6 most entries of 0E",
-    "6 most entries of 11",
-    "6 most entries of 4E",
+    "6 most entries of {row}",
     "7 data checksum",
     "8 global checksum",
     "9 bytes",
     "10 end block complete",
-    "20 count of 06",
-    "20 count of 07",
-    "20 count of 08",
-    "20 count of 09",
-    "20 count of 0E",
-    "20 count of 11",
-    "20 count of 4E",
+    "20 count of {needed}",
     "21 two VLANIDs",
     "22 a port's VLANID",
     "23 SHARINDX",
     "24 sum of PART_SPC",
     "25 two INDEXes",
-    "30 count of 05",
-    "30 count of 06",
-    "30 count of 07",
-    "30 count of 08",
-    "30 count of 09",
-    "30 count of 0D",
-    "30 count of 0E",
-    "30 count of 11",
-    "30 count of 4E",
+    "30 count of {row}",
     "30 mark",
-    "30 write, count of 05",
-    "30 write, count of 06",
-    "30 write, count of 07",
-    "30 write, count of 08",
-    "30 write, count of 09",
-    "30 write, count of 0D",
-    "30 write, count of 0E",
-    "30 write, count of 11",
-    "30 write, count of 4E",
+    "30 write, count of {row}",
     "30 write, words due",
     "30 write, words placed",
     "31 fresh_ledger",
@@ -124,11 +91,32 @@ pub const BOUNDARIES: [&str; 109] = [
     "drop 11 units",
 ];
 
+/// Their names, in this order.
+pub fn boundaries() -> Vec<String> {
+    let of_id = |name: &str, id: u8| format!("{name}{id:02X}");
+    let mut names = Vec::new();
+    for name in BOUNDARIES {
+        if let Some(name) = name.strip_suffix("{row}") {
+            names.extend(ROWS.iter().map(|row| of_id(name, row.id)));
+        } else if let Some(name) = name.strip_suffix("{needed}") {
+            names.extend(NEEDED.iter().map(|(table, _)| of_id(name, table.id())));
+        } else {
+            names.push(name.to_string());
+        }
+    }
+    names
+}
+
+/// Every refusal: framing, the loading rules, calls, lists.
+pub fn refusals() -> Vec<u32> {
+    (1..=10).chain(RULES.iter().copied()).chain(30..=39).chain(50..=54).collect()
+}
+
 #[derive(Default)]
 pub struct Tally {
     pub refusals: BTreeMap<u32, u64>,
     pub drops: BTreeMap<u32, u64>,
-    pub sides: BTreeMap<(&'static str, Side), u64>,
+    pub sides: BTreeMap<(String, Side), u64>,
     pub loaded: u64,
     pub sent: u64,
     pub passed: u64,
@@ -144,8 +132,8 @@ impl Tally {
         *self.drops.entry(number).or_default() += 1;
     }
 
-    pub fn side(&mut self, boundary: &'static str, side: Side) {
-        *self.sides.entry((boundary, side)).or_default() += 1;
+    pub fn side(&mut self, boundary: &str, side: Side) {
+        *self.sides.entry((boundary.to_string(), side)).or_default() += 1;
     }
 
     /// Counts one check.
@@ -162,8 +150,8 @@ impl Tally {
             Ok(output) => {
                 self.count_lines(&output);
                 self.passed += 1;
-                if let Some((boundary, side)) = case.side {
-                    self.side(boundary, side);
+                if let Some((boundary, side)) = &case.side {
+                    self.side(boundary, *side);
                 }
             }
             Err(failure) => self.failures.push(failure),
@@ -188,8 +176,8 @@ impl Tally {
     /// What had to be hit and was not.
     pub fn missed(&self) -> Vec<String> {
         let mut missed = Vec::new();
-        for number in PROGRAM_REFUSALS.iter().chain(&CALL_REFUSALS) {
-            if !self.refusals.contains_key(number) {
+        for number in refusals() {
+            if !self.refusals.contains_key(&number) {
                 missed.push(format!("refusal {number} was not hit"));
             }
         }
@@ -198,7 +186,8 @@ impl Tally {
                 missed.push(format!("drop {number} was not hit"));
             }
         }
-        for boundary in BOUNDARIES {
+        let boundaries = boundaries();
+        for boundary in &boundaries {
             for side in [Side::Passes, Side::Refused] {
                 if self.hits(boundary, side) == 0 {
                     missed.push(format!("boundary {boundary}: side {side:?} was not hit"));
@@ -206,15 +195,15 @@ impl Tally {
             }
         }
         for (boundary, _) in self.sides.keys() {
-            if !BOUNDARIES.contains(boundary) {
+            if !boundaries.contains(boundary) {
                 missed.push(format!("boundary {boundary} is not in the list"));
             }
         }
         missed
     }
 
-    fn hits(&self, boundary: &'static str, side: Side) -> u64 {
-        self.sides.get(&(boundary, side)).copied().unwrap_or(0)
+    fn hits(&self, boundary: &str, side: Side) -> u64 {
+        self.sides.get(&(boundary.to_string(), side)).copied().unwrap_or(0)
     }
 
     pub fn print(&self) {
@@ -225,11 +214,11 @@ impl Tally {
         for (number, hits) in &self.drops {
             println!("drop {number:2}: {hits}");
         }
-        for boundary in BOUNDARIES {
+        for boundary in boundaries() {
             println!(
                 "boundary {boundary}: {} pass, {} do not",
-                self.hits(boundary, Side::Passes),
-                self.hits(boundary, Side::Refused)
+                self.hits(&boundary, Side::Passes),
+                self.hits(&boundary, Side::Refused)
             );
         }
     }

@@ -1,4 +1,4 @@
-//! The image: the first words of a lent buffer, and where everything stands in it. All of it follows from the rows.
+//! The image: the first words of a lent buffer, and where everything stands in it, from the rows.
 //! Document 01, "The stream", last paragraph: entries, counts, the mark, zeros.
 
 use crate::rules;

@@ -93,7 +93,7 @@ pub fn stream_of(blocks: &[Block], end: End) -> Vec<u32> {
     words
 }
 
-/// One block a table that has entries, in ascending ID as Linux's driver sends them, free bits zero.
+/// One block a table that has entries, in ascending ID as Linux's driver has them, free bits zero.
 pub fn plain_blocks(lists: &Lists) -> Vec<Block> {
     let mut blocks = Vec::new();
     for row in ascending() {

@@ -1,4 +1,4 @@
-//! The tables that are carried, their sizes, and the fields that are used, with the manual's bit numbers.
+//! The tables that are carried, their sizes, and the fields that are used, with the manual's bits.
 //! Document 01, "The stream": the table of IDs and "Fields used"; 001, tables 2 and 10 to 24.
 
 /// A table that is carried.
@@ -27,8 +27,9 @@ const fn row(id: u8, table: Table, words: usize, most: usize) -> Row {
     Row { table, id, words, most }
 }
 
-/// ID, table, words an entry, most entries. Entries and counts stand in this order in the image: a table's number is its place here.
-/// The order is that in which the tables were taken in, so that a new one moves none; it need not be that of the IDs.
+/// ID, table, words an entry, most entries. Entries and counts stand in the image in this order,
+/// and a table's number is its place here. A new table comes last, so that it moves no other: the
+/// order need not be that of the IDs.
 pub const ROWS: &[Row] = &[
     row(0x05, Table::L2AddressLookup, 3, 1024),
     row(0x06, Table::L2Policing, 2, 45),

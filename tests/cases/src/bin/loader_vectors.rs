@@ -16,6 +16,7 @@ use cases::build::{with, with_address, with_vlan, Address, A};
 use cases::case::{Case, Expect};
 use cases::damage::{flip, refusal_of_flip};
 use cases::named_streams;
+use cases::rules::least_entries;
 use reference::crc;
 use reference::image::IMAGE_WORDS;
 use reference::k;
@@ -165,7 +166,7 @@ fn address(index: u64) -> Address {
 }
 
 /// Every small table from no entry to one above its most, in one block and with its last entry in a
-/// block of its own. 05 and 0D may have any number; 06 and 07 one at least; the rest their most.
+/// block of its own.
 fn every_limit() -> Vec<Case> {
     let mut cases = Vec::new();
     for row in ROWS.iter().filter(|row| row.most <= 45) {
@@ -174,12 +175,10 @@ fn every_limit() -> Vec<Case> {
             if near[..turn].contains(&entries) {
                 continue;
             }
-            let optional = row.table == Table::L2LookupParameters;
-            let free = optional || (row.table == Table::L2Policing && entries > 0);
             let number = match entries {
                 entries if entries > row.most => 6,
-                entries if free || entries == row.most => 0,
-                _ => 20,
+                entries if entries < least_entries(row.table) => 20,
+                _ => 0,
             };
             let lists = k_with(row.table, entries);
             let name = format!("{:02x}_with_{entries}", row.id);
