@@ -1,5 +1,6 @@
 //! Every cutting of short streams into writes, and every stride through a stream that loads.
 
+use cases::build::not_carried;
 use reference::crc;
 use reference::stream::{stream_of, Block, End, DEVICE_ID};
 
@@ -11,9 +12,10 @@ use tailbow::raw::MORE;
 const MOST: usize = 64;
 
 /// Streams of a few words: each framing refusal, rule 20, and one that does not end; each with words behind its answer.
-pub fn short_streams() -> Vec<(u32, Vec<u32>)> {
+fn short_streams() -> Vec<(u32, Vec<u32>)> {
     let header =
         |first: u32, second: u32| vec![DEVICE_ID, first, second, crc::of_words(&[first, second])];
+    let [not_carried, ..] = not_carried();
     let parameters = Block::plain(0x0D, vec![0x1234_5678]);
     let ports = Block::plain(0x4E, vec![0x9ABC_DEF0]);
     let mut wrong_header = header(0x0D00_0000, 1);
@@ -28,7 +30,7 @@ pub fn short_streams() -> Vec<(u32, Vec<u32>)> {
         (1, vec![DEVICE_ID ^ 1]),
         (2, wrong_header),
         (3, header(0x7700_0000, 1)),
-        (4, header(0x0000_0000, 1)),
+        (4, header(u32::from(not_carried) << 24, 1)),
         (5, header(0x0700_0000, 3)),
         (6, header(0x0700_0000, 8194)),
         (6, twice),

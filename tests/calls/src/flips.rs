@@ -3,7 +3,7 @@
 use cases::damage::blocks_in;
 use cases::generate::{later, random_config, random_frame, Profile};
 use cases::rng::Rng;
-use reference::image::{of_lists, FIRST_COUNT, IMAGE_WORDS};
+use reference::image::{of_lists, FIRST_COUNT, IMAGE_WORDS, MARK};
 use reference::ledger::Ledger;
 use tailbow::raw::{FlatLoad, MORE};
 
@@ -146,7 +146,7 @@ pub fn loads(tally: &mut Tally, buffer: &[u32], words: &[u32]) {
             pair.put_state(turned(&sound.flat, bit));
             go_on(tally, &name, &mut pair, &words[place..]);
         }
-        for bit in FIRST_COUNT * 32..(FIRST_COUNT + 10) * 32 {
+        for bit in FIRST_COUNT * 32..(MARK + 1) * 32 {
             let name = format!("load at word {place}, word {}, bit {}", bit / 32, bit % 32);
             let mut edited = sound.ours.clone();
             edited[bit / 32] ^= 1 << (bit % 32);

@@ -19,8 +19,9 @@ use std::time::{Instant, SystemTime, UNIX_EPOCH};
 use cases::damage::{flip, one_entry_a_block, rearranged, refusal_of_flip};
 use cases::generate::{random_config, random_stream, Profile};
 use cases::rng::Rng;
+use cases::rules::RULES;
 use cases::{boundaries, check, fixed};
-use reference::image::{of_lists, IMAGE_WORDS};
+use reference::image::{of_lists, FIRST_COUNT, IMAGE_WORDS};
 use reference::stream::{bytes_of, words_of};
 use tailbow::raw::MORE;
 
@@ -40,6 +41,9 @@ const BOUNDARIES_EVERY: u64 = 300;
 
 const VECTORS: [&str; 7] =
     ["01_min", "02_K", "06_rand", "13_maxfields", "15_mem929", "16_mem930", "21_short08"];
+
+// The bindings' length of an image is the one that the second program computes from its rows.
+const _: () = assert!(tailbow::IMAGE_WORDS == IMAGE_WORDS);
 
 /// What is asked for.
 struct Asked {
@@ -159,7 +163,7 @@ fn vectors(rng: &mut Rng, tally: &mut Tally) {
 /// 31 of every entry that loads, at each side of the image's length.
 fn short_buffers(tally: &mut Tally, bytes: &[u8]) {
     let words = words_of(bytes);
-    for length in [0, 1, 11_430, IMAGE_WORDS - 1, IMAGE_WORDS, IMAGE_WORDS + 1] {
+    for length in [0, 1, FIRST_COUNT, IMAGE_WORDS - 1, IMAGE_WORDS, IMAGE_WORDS + 1] {
         let buffer = vec![0xA5A5_A5A5; length];
         let name = format!("a buffer of {length} words");
         let short = length < IMAGE_WORDS;
@@ -247,6 +251,6 @@ fn profile(rng: &mut Rng, round: u64) -> Profile {
         0 => Profile::Near,
         1 => Profile::Valid,
         2 => Profile::Wild,
-        _ => Profile::Breaks(rng.between(20, 25) as u32),
+        _ => Profile::Breaks(rng.pick(RULES)),
     }
 }

@@ -123,7 +123,8 @@ pub fn stateless(rng: &mut Rng, flat: &FlatLoad) -> FlatLoad {
         edited.phase = rng.pick(&[PHASES, PHASES + 1, 255, 1 << 31, u32::MAX]);
     }
     if is_state(&edited) || rng.once_in(3) {
-        edited.table = rng.pick(&[9, 10, 255, 1 << 31, u32::MAX]);
+        let tables = ROWS.len() as u32;
+        edited.table = rng.pick(&[tables, tables + 1, 255, 1 << 31, u32::MAX]);
     }
     edited
 }

@@ -3,6 +3,8 @@
 use std::collections::BTreeMap;
 use std::fmt;
 
+use cases::rules::RULES;
+use cases::tally::refusals;
 use tailbow::raw::MORE;
 
 /// Failures that are printed.
@@ -44,18 +46,20 @@ impl fmt::Display for Answer {
 /// An entry, and what it must have answered at least once: refusals, drops, and the rest.
 struct Due {
     entry: &'static str,
-    refusals: &'static [u32],
+    refusals: &'static [&'static [u32]],
     drops: &'static [u32],
     told: &'static [&'static str],
 }
 
-const WRITE: &[u32] = &[1, 2, 3, 4, 5, 6, 7, 8, 20, 21, 22, 23, 24, 25, 30, 31, 32];
-const WORDS: &[u32] = &[1, 2, 3, 4, 5, 6, 7, 8, 10, 20, 21, 22, 23, 24, 25, 31];
-const BYTES: &[u32] = &[1, 2, 3, 4, 5, 6, 7, 8, 9, 10, 20, 21, 22, 23, 24, 25, 31];
-const FRAME: &[u32] = &[30, 31, 33, 34, 35, 38, 39];
+/// The framing refusals of every way of loading; the loading rules are as common to them.
+const FRAMING: &[u32] = &[1, 2, 3, 4, 5, 6, 7, 8];
+const WRITE: &[&[u32]] = &[FRAMING, RULES, &[30, 31, 32]];
+const WORDS: &[&[u32]] = &[FRAMING, RULES, &[10, 31]];
+const BYTES: &[&[u32]] = &[FRAMING, RULES, &[9, 10, 31]];
+const FRAME: &[&[u32]] = &[&[30, 31, 33, 34, 35, 38, 39]];
 const DROPS: &[u32] = &[1, 2, 3, 4, 5, 6, 7, 8, 9, 10, 11];
-const RELEASE: &[u32] = &[30, 31, 36, 37, 39];
-const LIST: &[u32] = &[50, 51, 52, 53, 54];
+const RELEASE: &[&[u32]] = &[&[30, 31, 36, 37, 39]];
+const LIST: &[&[u32]] = &[&[50, 51, 52, 53, 54]];
 
 /// Every entry, with every answer that document 01 lets it give.
 const ENTRIES: [Due; 9] = [
@@ -64,12 +68,12 @@ const ENTRIES: [Due; 9] = [
     Due { entry: "write", refusals: WRITE, drops: &[], told: &["loaded", "more", "repeated"] },
     Due { entry: "load_words", refusals: WORDS, drops: &[], told: &["loaded"] },
     Due { entry: "load_bytes", refusals: BYTES, drops: &[], told: &["loaded"] },
-    Due { entry: "fresh_ledger", refusals: &[30, 31], drops: &[], told: &["done"] },
+    Due { entry: "fresh_ledger", refusals: &[&[30, 31]], drops: &[], told: &["done"] },
     Due { entry: "judge", refusals: FRAME, drops: DROPS, told: &["sent"] },
     Due { entry: "release", refusals: RELEASE, drops: &[], told: &["done"] },
     Due {
         entry: "tile",
-        refusals: &[31, 33, 39],
+        refusals: &[&[31, 33, 39]],
         drops: &[],
         told: &["not-loaded", "no-frames", "shares"],
     },
@@ -78,7 +82,7 @@ const ENTRIES: [Due; 9] = [
 
 impl Due {
     fn answers(&self) -> Vec<Answer> {
-        let refusals = self.refusals.iter().map(|&number| Answer::Refused(number));
+        let refusals = self.refusals.concat().into_iter().map(Answer::Refused);
         let drops = self.drops.iter().map(|&number| Answer::Drop(number));
         let told = self.told.iter().map(|&word| Answer::Told(word));
         refusals.chain(drops).chain(told).collect()
@@ -87,7 +91,7 @@ impl Due {
 
 /// Every refusal and drop of document 01: each must have been given by some entry.
 fn numbers() -> Vec<Answer> {
-    let refusals = (1..=10).chain(20..=25).chain(30..=39).chain(50..=54).map(Answer::Refused);
+    let refusals = refusals().into_iter().map(Answer::Refused);
     refusals.chain((1..=11).map(Answer::Drop)).collect()
 }
 
