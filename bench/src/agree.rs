@@ -5,14 +5,15 @@ use cases::damage::{flip, rearranged};
 use cases::edit::{edited_image, edited_ledger};
 use cases::generate::{later, random_config, random_frame, Profile};
 use cases::rng::Rng;
+use cases::rules::RULES;
 use cases::{boundaries, check};
-use reference::image::of_lists;
+use reference::image::{count_place, of_lists, FIRST_COUNT, IMAGE_WORDS};
 use reference::judge::{self, FrameAnswer, ReleaseAnswer};
 use reference::ledger::{self, Ledger};
 use reference::list::{Next, Reader, Record};
 use reference::load::{self, LoadAnswer, LoadState};
 use reference::stream::{bytes_of, plain_stream, words_of, Lists};
-use reference::tables::{address_lookup, Table};
+use reference::tables::{address_lookup, Table, ROWS};
 use reference::tile::{self, TileAnswer};
 use reference::{crc, k};
 
@@ -20,7 +21,7 @@ use crate::flat::*;
 use crate::marks;
 use crate::ours::OURS;
 use crate::peer::PEER;
-use crate::works::{self, full_frame, k_frames, lists, Place, Sizes, FULL};
+use crate::works::{self, full_frame, full_stream, k_frames, lists, Place, Sizes, FULL, LEAST};
 
 /// How many configurations, and how many damaged streams of each.
 const CONFIGS: usize = 60;
@@ -77,7 +78,7 @@ pub fn all() -> Result<Agreed, String> {
         let profile = match number % 10 {
             0..=3 => Profile::Near,
             4..=6 => Profile::Valid,
-            7..=8 => Profile::Breaks(20 + (number / 5 % 6) as u32),
+            7..=8 => Profile::Breaks(RULES[number / 5 % RULES.len()]),
             _ => Profile::Wild,
         };
         let config = random_config(&mut rng, profile);
@@ -99,11 +100,11 @@ pub fn all() -> Result<Agreed, String> {
 fn measured(agreed: &mut Agreed, rng: &mut Rng) -> Checked {
     let mut configs = vec![k::lists(), lists(FULL, Place::Last), lists(FULL, Place::First)];
     for many in [1, 16, 256, 1024, 4096] {
-        configs.push(lists(Sizes { vlans: many, addresses: 1, policing: 45 }, Place::Last));
-        let addresses = many.min(1024);
-        configs.push(lists(Sizes { vlans: 1, addresses, policing: 45 }, Place::Last));
-        let policing = many.min(45);
-        configs.push(lists(Sizes { vlans: 1, addresses: 1, policing }, Place::Last));
+        configs.push(lists(Sizes { vlans: many, ..LEAST }, Place::Last));
+        let addresses = many.min(FULL.addresses);
+        configs.push(lists(Sizes { addresses, ..LEAST }, Place::Last));
+        let policing = many.min(FULL.policing);
+        configs.push(lists(Sizes { policing, ..LEAST }, Place::Last));
     }
     for config in &configs {
         let words = plain_stream(config);
@@ -116,10 +117,12 @@ fn measured(agreed: &mut Agreed, rng: &mut Rng) -> Checked {
         frames_of(agreed, config)?;
         sequence(agreed, rng, &of_lists(config), 20)?;
     }
-    let full = plain_stream(&configs[1]);
-    if full.len() != 11_470 {
-        return Err(format!("the full stream has {} words", full.len()));
+    for row in ROWS {
+        if configs[1].of(row.table).len() != row.most {
+            return Err(format!("{:02X} of the full stream is not full", row.id));
+        }
     }
+    let full = full_stream();
     for _ in 0..20 {
         let damaged = damage(rng, &full);
         loads(agreed, rng, &damaged)?;
@@ -147,7 +150,7 @@ fn frames_of(agreed: &mut Agreed, config: &Lists) -> Checked {
 
 /// Two matches with one INDEX, as only an edited image has them: the first counts.
 fn twins(agreed: &mut Agreed) -> Checked {
-    let mut config = lists(Sizes { vlans: 1, addresses: 40, policing: 45 }, Place::First);
+    let mut config = lists(Sizes { addresses: 40, ..LEAST }, Place::First);
     for number in [3, 39] {
         for field in [address_lookup::MACADDR, address_lookup::INDEX] {
             let of_first = config.get(field, 0);
@@ -305,16 +308,22 @@ fn refused_write(rng: &mut Rng, image: &[u32], ours: &FlatLoad, peer: &FlatLoad)
         expected = 32;
     }
     match rng.below(5) {
-        0 => (buffer[11_430 + rng.place(9)], expected) = (5000, 30),
+        0 => {
+            let row = &ROWS[rng.place(ROWS.len())];
+            (buffer[count_place(row.table)], expected) = (row.most as u32 + 1, 30);
+        }
         1 if ours.phase == DATA => {
-            let due = rng.pick(&[u64::MAX, 11_430, u64::MAX / 2]);
+            let due = rng.pick(&[u64::MAX, FIRST_COUNT as u64, u64::MAX / 2]);
             (our_load.due, peer_load.due, expected) = (due, due, 30);
         }
         2 => {
             let phase = rng.pick(&[6, 99, u32::MAX]);
             (our_load.phase, peer_load.phase, expected) = (phase, phase, 30);
         }
-        3 => (our_load.table, peer_load.table, expected) = (9, 9, 30),
+        3 => {
+            let none = ROWS.len() as u32;
+            (our_load.table, peer_load.table, expected) = (none, none, 30);
+        }
         _ => {}
     }
     if expected == 0 || rng.once_in(4) {

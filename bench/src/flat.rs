@@ -3,9 +3,6 @@
 /// "More" as a number; document 01 gives it none.
 pub const MORE: u32 = 0xFFFF_FFFF;
 
-/// Words of the image.
-pub const IMAGE_WORDS: usize = 11_456;
-
 /// Phases: word 0 or not begun, a header's three words, data and their checksum, an answer told.
 pub const FRESH: u32 = 0;
 pub const ID: u32 = 1;

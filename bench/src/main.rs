@@ -124,7 +124,12 @@ fn shown(nanoseconds: f64) -> String {
 /// The marks are measured in the rounds of the whole load.
 fn print_marks(whole: &Measured) {
     println!();
-    println!("Marks over the same 45,880 bytes: a whole load of words over each");
+    let bytes = 4 * works::full_stream().len();
+    println!(
+        "Marks over the same {},{:03} bytes: a whole load of words over each",
+        bytes / 1000,
+        bytes % 1000
+    );
     println!("{:<28} {:>12} {:>12} {:>12}", "mark", "time", "ours/mark", "peer/mark");
     if !marks::WITH_ZLIB {
         println!("{:<28} left out: zlib is not there to link", marks::ZLIB);

@@ -4,12 +4,12 @@ use std::hint::black_box;
 
 use cases::build::{Frame, A, B, BROADCAST};
 use cases::rng::Rng;
-use reference::image::of_lists;
+use reference::image::{of_lists, IMAGE_WORDS};
 use reference::k;
 use reference::stream::{bytes_of, plain_stream, Lists};
 use reference::tables::{address_lookup, policing, vlan_lookup, Table};
 
-use crate::flat::{FlatLedger, FlatLoad, Program, IMAGE_WORDS, MORE};
+use crate::flat::{FlatLedger, FlatLoad, Program, MORE};
 use crate::marks;
 use crate::ours::OURS;
 use crate::peer::PEER;
@@ -40,8 +40,12 @@ pub struct Sizes {
     pub policing: usize,
 }
 
-pub const FULL: Sizes = Sizes { vlans: 4096, addresses: 1024, policing: 45 };
-const LEAST: Sizes = Sizes { vlans: 1, addresses: 1, policing: 45 };
+pub const FULL: Sizes = Sizes {
+    vlans: Table::VlanLookup.most(),
+    addresses: Table::L2AddressLookup.most(),
+    policing: Table::L2Policing.most(),
+};
+pub const LEAST: Sizes = Sizes { vlans: 1, addresses: 1, ..FULL };
 
 /// The VLAN of every port and of the frame.
 const VLAN: u64 = 1;
@@ -89,6 +93,11 @@ fn put_addresses(rng: &mut Rng, lists: &mut Lists, many: usize, place: Place) {
         lists.put(address_lookup::ENFPORT, number, 1);
         lists.put(address_lookup::INDEX, number, index);
     }
+}
+
+/// The stream that whole loads and writes are measured on.
+pub fn full_stream() -> Vec<u32> {
+    plain_stream(&lists(FULL, Place::Last))
 }
 
 /// A tagged frame from B to A.
@@ -284,17 +293,16 @@ pub fn growth_names() -> Vec<String> {
 
 /// The work of this name.
 pub fn work(name: &str) -> Option<Work> {
-    let full = || plain_stream(&lists(FULL, Place::Last));
     let sides = match name {
         "whole load, words" => {
-            let words = full();
+            let words = full_stream();
             let mut sides = whole(&words);
             sides.extend(marks::sides(&words));
             sides
         }
-        "whole load, bytes" => whole_bytes(&full()),
-        "writes of 64" => writes(&full(), 64),
-        "writes of 1" => writes(&full(), 1),
+        "whole load, bytes" => whole_bytes(&full_stream()),
+        "writes of 64" => writes(&full_stream(), 64),
+        "writes of 1" => writes(&full_stream(), 1),
         "K's frames" => k_judging(),
         "full, last" => frame_judging(FULL, Place::Last),
         "full, first" => frame_judging(FULL, Place::First),

@@ -1,27 +1,73 @@
-//! Where everything stands in the image, and the fields, with the manual's bit numbers.
+//! The tables' rows, where by them everything stands in the image, and the fields, with the manual's bit numbers.
 
-use crate::flat::IMAGE_WORDS;
+/// Each table's number, block ID, words an entry and most entries, by its name.
+macro_rules! rows {
+    ($($name:ident = $id:literal, $size:literal, $most:literal;)*) => {
+        const IDS: [u32; TABLES] = [$($id),*];
+
+        pub const TABLES: usize = [$($id),*].len();
+        pub const SIZE: [usize; TABLES] = [$($size),*];
+        pub const MOST: [u32; TABLES] = [$($most),*];
+
+        $(pub const $name: usize = place($id);)*
+
+        /// Not in table 2 of 001 (3), in it and not carried (4), or the table.
+        #[inline(always)]
+        pub fn table_of(id: u32) -> Result<usize, u32> {
+            match id {
+                $($id => Ok($name),)*
+                0x00..=0x12 => Err(4),
+                _ => Err(3),
+            }
+        }
+    };
+}
+
+// Entries and counts stand in the image in this order, which need not be that of the IDs: a new table comes last.
+rows! {
+    ADDRESSES = 0x05, 3, 1024;
+    POLICING = 0x06, 2, 45;
+    VLANS = 0x07, 2, 4096;
+    FORWARDING = 0x08, 2, 13;
+    MAC = 0x09, 7, 5;
+    LOOKUP = 0x0D, 1, 1;
+    FORWARDING_PARAMETERS = 0x0E, 3, 1;
+    GENERAL = 0x11, 10, 1;
+    XMII = 0x4E, 1, 1;
+}
+
+const fn place(id: u32) -> usize {
+    let mut table = 0;
+    while IDS[table] != id {
+        table += 1;
+    }
+    table
+}
+
+/// Where a table begins.
+pub const BASE: [usize; TABLES] = bases();
+
+/// The counts stand behind the last table, the mark behind them, and zeros up to 26 words.
+pub const COUNTS: usize = behind(&BASE, TABLES - 1);
+pub const MARK: usize = COUNTS + TABLES;
+const IMAGE_WORDS: usize = COUNTS + 26;
 
 pub type Image = [u32; IMAGE_WORDS];
 
-/// Tables in ascending block ID.
-pub const ADDRESSES: usize = 0;
-pub const POLICING: usize = 1;
-pub const VLANS: usize = 2;
-pub const FORWARDING: usize = 3;
-pub const MAC: usize = 4;
-pub const LOOKUP: usize = 5;
-pub const FORWARDING_PARAMETERS: usize = 6;
-pub const GENERAL: usize = 7;
-pub const XMII: usize = 8;
+const fn bases() -> [usize; TABLES] {
+    let mut bases = [0; TABLES];
+    let mut table = 1;
+    while table < TABLES {
+        bases[table] = behind(&bases, table - 1);
+        table += 1;
+    }
+    bases
+}
 
-/// Words an entry, most entries, where a table begins.
-pub const SIZE: [usize; 9] = [3, 2, 2, 2, 7, 1, 3, 10, 1];
-pub const MOST: [u32; 9] = [1024, 45, 4096, 13, 5, 1, 1, 1, 1];
-pub const BASE: [usize; 9] = [0, 3072, 3162, 11354, 11380, 11415, 11416, 11419, 11429];
-
-pub const COUNTS: usize = 11_430;
-pub const MARK: usize = 11_439;
+/// Behind a table's most entries.
+const fn behind(bases: &[usize; TABLES], table: usize) -> usize {
+    bases[table] + SIZE[table] * MOST[table] as usize
+}
 
 /// The image of a lent buffer that is long enough.
 #[inline(always)]
@@ -35,7 +81,7 @@ pub fn image_in(buffer: &mut [u32]) -> Option<&mut Image> {
 }
 
 #[inline(always)]
-pub fn counts(image: &Image) -> &[u32; 9] {
+fn counts(image: &Image) -> &[u32; TABLES] {
     image[COUNTS..].first_chunk().unwrap()
 }
 
@@ -78,30 +124,38 @@ pub fn entries<const N: usize>(image: &Image, table: usize) -> &[[u32; N]] {
     image[BASE[table]..BASE[table] + N * count(image, table)].as_chunks().0
 }
 
+/// Where an entry begins.
 #[inline(always)]
-fn pair(image: &Image, place: usize) -> u64 {
+pub fn place_of(table: usize, number: usize) -> usize {
+    BASE[table] + SIZE[table] * number
+}
+
+/// An entry of two words.
+#[inline(always)]
+fn pair(image: &Image, table: usize, number: usize) -> u64 {
+    let place = place_of(table, number);
     u64::from(image[place]) | u64::from(image[place + 1]) << 32
 }
 
 #[inline(always)]
 pub fn policing(image: &Image, number: usize) -> u64 {
-    pair(image, BASE[POLICING] + 2 * number)
+    pair(image, POLICING, number)
 }
 
 #[inline(always)]
 pub fn forwarding(image: &Image, number: usize) -> u64 {
-    pair(image, BASE[FORWARDING] + 2 * number)
+    pair(image, FORWARDING, number)
 }
 
 #[inline(always)]
 pub fn vlan_entry(image: &Image, number: usize) -> u64 {
-    pair(image, BASE[VLANS] + 2 * number)
+    pair(image, VLANS, number)
 }
 
 /// The word of MAC Configuration that has every field used.
 #[inline(always)]
 pub fn mac(image: &Image, port: usize) -> u32 {
-    image[BASE[MAC] + 7 * port]
+    image[place_of(MAC, port)]
 }
 
 #[inline(always)]

@@ -9,24 +9,6 @@ use super::rules::first_broken_rule;
 const DEVICE_ID: u32 = 0x9E00_030E;
 const MOST_WORDS_A_WRITE: usize = 64;
 
-/// Not in table 2 of 001 (3), in it and not carried (4), or the table.
-#[inline(always)]
-fn table_of(id: u32) -> Result<usize, u32> {
-    match id {
-        0x05 => Ok(ADDRESSES),
-        0x06 => Ok(POLICING),
-        0x07 => Ok(VLANS),
-        0x08 => Ok(FORWARDING),
-        0x09 => Ok(MAC),
-        0x0D => Ok(LOOKUP),
-        0x0E => Ok(FORWARDING_PARAMETERS),
-        0x11 => Ok(GENERAL),
-        0x4E => Ok(XMII),
-        0x00..=0x12 => Err(4),
-        _ => Err(3),
-    }
-}
-
 /// 2 to 6, or the block's table.
 #[inline(always)]
 fn header(image: &Image, first: u32, second: u32, sum: u32) -> Result<usize, u32> {
@@ -57,9 +39,10 @@ fn end(image: &mut Image, stream: u32, sum: u32) -> u32 {
     broken
 }
 
+/// Behind the entries that a table has.
 #[inline(always)]
-fn place_of(image: &Image, table: usize) -> usize {
-    BASE[table] + count(image, table) * SIZE[table]
+fn behind_entries(image: &Image, table: usize) -> usize {
+    place_of(table, count(image, table))
 }
 
 #[inline(never)]
@@ -121,7 +104,7 @@ fn blocks<W: Words>(image: &mut Image, words: W) -> u32 {
         if words.count() - at <= length {
             return 10;
         }
-        let place = place_of(image, table);
+        let place = behind_entries(image, table);
         let to = &mut image[place..place + length];
         let (after, block) = copy_in(words.part(at, length), to, stream, START);
         at += length;
@@ -151,7 +134,7 @@ pub fn write(image: &mut [u32], load: &mut FlatLoad, words: &[u32]) -> u32 {
     let Some(image) = image_in(image) else {
         return 31;
     };
-    if load.phase > TOLD || load.table > 8 {
+    if load.phase > TOLD || load.table as usize >= TABLES {
         return 30;
     }
     if load.phase != FRESH && beyond(image, load) {
@@ -174,7 +157,7 @@ pub fn write(image: &mut [u32], load: &mut FlatLoad, words: &[u32]) -> u32 {
 /// Data words that the block has room for.
 #[inline(always)]
 fn fill(image: &mut Image, load: &mut FlatLoad, data: &[u32]) {
-    let place = place_of(image, load.table as usize) + load.placed as usize;
+    let place = behind_entries(image, load.table as usize) + load.placed as usize;
     load.placed += data.len() as u64;
     load.due -= data.len() as u64;
     if let [one] = data {
