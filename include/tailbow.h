@@ -127,7 +127,7 @@ extern "C" {
 struct tailbow_load {
     uint32_t phase;
     uint32_t told;   /* in TAILBOW_PHASE_TOLD the answer; not read in any other phase, and left as it stood */
-    uint32_t table;  /* the block's table: 0 to 8 for 05, 06, 07, 08, 09, 0D, 0E, 11, 4E */
+    uint32_t table;  /* the block's table by its number: from 0 on 05, 06, 07, 08, 09, 0D, 0E, 11, 4E, as they stand in the image */
     uint64_t placed; /* data words of the block that stand in the image */
     uint64_t due;    /* data words of the block still to come */
     uint32_t first;  /* the header's first word */
@@ -146,9 +146,9 @@ void tailbow_fresh_load(struct tailbow_load *load);
  * A write of 1 to 64 words to a load.
  *
  * 31  image_words is below TAILBOW_IMAGE_WORDS.
- * 30  The phase is above 5 or the table above 8; or, for a load that has begun (any phase but TAILBOW_PHASE_FRESH), some table's
+ * 30  The phase is above 5 or no table has that number; or, for a load that has begun (any phase but TAILBOW_PHASE_FRESH), some table's
  *     count in the image is above its most entries, or in TAILBOW_PHASE_DATA more words are placed and due than the table has
- *     room for behind the entries it has. A first write with a table up to 8 never gives it, whatever the image holds.
+ *     room for behind the entries it has. A first write with a table's number never gives it, whatever the image holds.
  * 32  count is 0 or above TAILBOW_WRITE_WORDS.
  *
  * Each of these leaves the image and the load state as found. Then, if the load's answer has been told, that answer is repeated: image and

@@ -15,7 +15,7 @@ pub struct FlatLoad {
     pub phase: u32,
     /// The answer, in phase 5; in another phase it is not read.
     pub told: u32,
-    /// The block's table: 0 to 8, in ascending block ID.
+    /// The block's table by its number, from 0 on in the order in which the header lists them.
     pub table: u32,
     /// Data words of the block that stand in the image.
     pub placed: u64,
