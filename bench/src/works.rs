@@ -126,7 +126,7 @@ pub fn in_writes(program: &Program, image: &mut [u32], words: &[u32], length: us
 }
 
 /// K's three frames from this time on; the unit that the first takes was given back before.
-pub fn judge_k(
+fn judge_k(
     program: &Program,
     image: &[u32],
     ledger: &mut FlatLedger,
@@ -268,7 +268,7 @@ pub const MAIN: [(&str, Option<f64>); 10] = [
 ];
 
 /// A work that grows: its name, the table, the numbers of entries.
-pub const GROWTH: [(&str, &str, &[usize]); 11] = [
+const GROWTH: [(&str, &str, &[usize]); 11] = [
     ("whole load", "07", &[1, 16, 256, 1024, 4096]),
     ("whole load", "05", &[1, 16, 256, 1024]),
     ("whole load", "06", &[1, 16, 45]),

@@ -23,7 +23,7 @@ pub fn load_bytes(tally: &mut Tally, name: &str, buffer: &[u32], bytes: &[u8]) -
 }
 
 /// An answer's number, and the buffer after it.
-pub type Told = (u32, Vec<u32>);
+type Told = (u32, Vec<u32>);
 
 /// The two calls of a whole load.
 type Both<'a> = (&'a dyn Fn(&mut [u32]) -> u32, &'a dyn Fn(&mut [u32]) -> LoadAnswer);
@@ -84,9 +84,9 @@ pub fn fresh_load(rng: &mut Rng, tally: &mut Tally) {
 #[derive(Clone)]
 pub struct Pair {
     pub ours: Vec<u32>,
-    pub theirs: Vec<u32>,
+    theirs: Vec<u32>,
     pub flat: FlatLoad,
-    pub state: LoadState,
+    state: LoadState,
 }
 
 impl Pair {

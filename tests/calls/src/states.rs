@@ -6,7 +6,7 @@ use reference::tables::ROWS;
 
 use tailbow::raw::{FlatLoad, MORE};
 
-pub const PHASES: u32 = 6;
+const PHASES: u32 = 6;
 pub const FRESH: u32 = 0;
 pub const TOLD: u32 = 5;
 const DATA: u32 = 4;

@@ -3,8 +3,7 @@
 use std::collections::BTreeMap;
 use std::fmt;
 
-use cases::rules::RULES;
-use cases::tally::refusals;
+use cases::rules::{refusals, RULES};
 use tailbow::raw::MORE;
 
 /// Failures that are printed.

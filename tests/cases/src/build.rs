@@ -9,17 +9,17 @@ use reference::tables::{Field, Table, IDS_OF_TABLE_2};
 /// Addresses that frames and tables have in common.
 pub const A: u64 = 0x0200_0000_000A;
 pub const B: u64 = 0x0200_0000_000B;
-pub const C: u64 = 0x0200_0000_000C;
+pub(crate) const C: u64 = 0x0200_0000_000C;
 pub const BROADCAST: u64 = 0xFFFF_FFFF_FFFF;
 
 /// A frame's bytes in the making, without the checksum.
 #[derive(Clone, Debug)]
 pub struct Frame {
-    pub destination: u64,
-    pub source: u64,
+    destination: u64,
+    source: u64,
     /// Tag protocol and tag, where there is one.
-    pub tag: Option<(u16, u16)>,
-    pub length: usize,
+    tag: Option<(u16, u16)>,
+    length: usize,
 }
 
 impl Frame {
@@ -28,7 +28,7 @@ impl Frame {
         Frame { destination, source: B, tag: None, length: 60 }
     }
 
-    pub fn broadcast() -> Frame {
+    pub(crate) fn broadcast() -> Frame {
         Frame::to(BROADCAST)
     }
 
@@ -41,7 +41,7 @@ impl Frame {
         self.with_tag(0x8100, priority << 13 | vlan)
     }
 
-    pub fn with_tag(self, protocol: u16, tag: u16) -> Frame {
+    pub(crate) fn with_tag(self, protocol: u16, tag: u16) -> Frame {
         Frame { tag: Some((protocol, tag)), ..self }
     }
 
@@ -65,26 +65,20 @@ impl Frame {
 
 /// A list in the making.
 #[derive(Clone, Debug)]
-pub struct List {
+pub(crate) struct List {
     pub bytes: Vec<u8>,
 }
 
-impl Default for List {
-    fn default() -> List {
-        List::new()
-    }
-}
-
 impl List {
-    pub fn new() -> List {
+    pub(crate) fn new() -> List {
         List { bytes: HEAD.to_vec() }
     }
 
-    pub fn frame(self, port: u8, time: u64, frame: &Frame) -> List {
+    pub(crate) fn frame(self, port: u8, time: u64, frame: &Frame) -> List {
         self.frame_of(port, time, &frame.bytes())
     }
 
-    pub fn frame_of(mut self, port: u8, time: u64, frame: &[u8]) -> List {
+    pub(crate) fn frame_of(mut self, port: u8, time: u64, frame: &[u8]) -> List {
         self.bytes.extend([1, port]);
         self.bytes.extend(time.to_be_bytes());
         self.bytes.extend((frame.len() as u16).to_be_bytes());
@@ -92,25 +86,25 @@ impl List {
         self
     }
 
-    pub fn release(self, partition: u8) -> List {
+    pub(crate) fn release(self, partition: u8) -> List {
         self.raw(&[2, partition])
     }
 
-    pub fn raw(mut self, bytes: &[u8]) -> List {
+    pub(crate) fn raw(mut self, bytes: &[u8]) -> List {
         self.bytes.extend(bytes);
         self
     }
 }
 
 /// K with 100 units in partition 0, so that partitions do not end what is asked.
-pub fn open() -> Lists {
+pub(crate) fn open() -> Lists {
     let mut lists = k::lists();
     lists.put(forwarding_parameters::part_spc(0), 0, 100);
     lists
 }
 
 /// `open` with some fields put to other values: field, entry, value.
-pub fn open_with(changes: &[(Field, usize, u64)]) -> Lists {
+pub(crate) fn open_with(changes: &[(Field, usize, u64)]) -> Lists {
     with(open(), changes)
 }
 
@@ -155,7 +149,7 @@ pub fn with_vlan(lists: Lists, vlan: u64, members: u64, broadcast: u64, tags: u6
 }
 
 /// With 0D loaded and SHARED_LEARN set.
-pub fn with_shared_learn(lists: Lists) -> Lists {
+pub(crate) fn with_shared_learn(lists: Lists) -> Lists {
     let mut lists = lists;
     let number = lists.push_zero(Table::L2LookupParameters);
     lists.put(lookup_parameters::SHARED_LEARN, number, 1);
@@ -163,7 +157,7 @@ pub fn with_shared_learn(lists: Lists) -> Lists {
 }
 
 /// What a right header with this ID is told where no data follows: 3, 4, or 10 if it is carried.
-pub fn refusal_of_id(id: u8) -> u32 {
+pub(crate) fn refusal_of_id(id: u8) -> u32 {
     let in_table_2 = id <= 0x12 || id == 0x4E;
     match (in_table_2, Table::of_id(id)) {
         (false, _) => 3,

@@ -32,7 +32,7 @@ pub enum Side {
 pub struct Case {
     pub name: String,
     /// Where the expectation comes from.
-    pub clause: &'static str,
+    clause: &'static str,
     pub stream: Vec<u8>,
     pub list: Vec<u8>,
     pub expect: Expect,
@@ -57,15 +57,15 @@ impl Case {
         }
     }
 
-    pub fn of_lists(name: &str, clause: &'static str, lists: &Lists) -> Case {
+    pub(crate) fn of_lists(name: &str, clause: &'static str, lists: &Lists) -> Case {
         Case::of_words(name, clause, &plain_stream(lists))
     }
 
-    pub fn list(self, list: List) -> Case {
+    pub(crate) fn list(self, list: List) -> Case {
         self.list_bytes(list.bytes)
     }
 
-    pub fn list_bytes(self, list: Vec<u8>) -> Case {
+    pub(crate) fn list_bytes(self, list: Vec<u8>) -> Case {
         Case { list, ..self }
     }
 
@@ -77,24 +77,24 @@ impl Case {
         self.expecting(Expect::Refused(number))
     }
 
-    pub fn lines(self, lines: &[&str]) -> Case {
+    pub(crate) fn lines(self, lines: &[&str]) -> Case {
         let lines = lines.iter().map(|line| line.to_string()).collect();
         self.expecting(Expect::Lines(lines))
     }
 
-    pub fn output(self, output: &str) -> Case {
+    pub(crate) fn output(self, output: &str) -> Case {
         self.expecting(Expect::Output(output.to_string()))
     }
 
-    pub fn expecting(self, expect: Expect) -> Case {
+    pub(crate) fn expecting(self, expect: Expect) -> Case {
         Case { expect, ..self }
     }
 
-    pub fn passes(self, boundary: &str) -> Case {
+    pub(crate) fn passes(self, boundary: &str) -> Case {
         self.at(boundary, Side::Passes)
     }
 
-    pub fn beyond(self, boundary: &str) -> Case {
+    pub(crate) fn beyond(self, boundary: &str) -> Case {
         self.at(boundary, Side::Refused)
     }
 
@@ -103,7 +103,7 @@ impl Case {
     }
 
     /// What the reference prints, or how that differs from what is expected.
-    pub fn run(&self) -> Result<String, String> {
+    pub(crate) fn run(&self) -> Result<String, String> {
         let output = output_for(&self.stream, &self.list);
         let expected = match &self.expect {
             Expect::Anything => return Ok(output),
@@ -122,7 +122,7 @@ impl Case {
 }
 
 /// The whole output for a refused stream.
-pub fn refused_output(number: u32) -> String {
+fn refused_output(number: u32) -> String {
     let mut output = format!("config refused {number}\n");
     for port in 0..5 {
         output.push_str(&format!("tile {port} not-loaded\n"));

@@ -44,7 +44,7 @@ pub fn named() -> Vec<Case> {
 }
 
 /// A generated stream and list: any answer, the same from both programs.
-pub fn generated(rng: &mut Rng, number: usize) -> Case {
+pub(crate) fn generated(rng: &mut Rng, number: usize) -> Case {
     let profile = match rng.below(16) {
         0 => generate::Profile::Wild,
         1..=3 => generate::Profile::Valid,
@@ -71,7 +71,8 @@ fn finish(tally: Tally) -> bool {
 #[cfg(test)]
 mod tests {
     use super::*;
-    use crate::tally::{boundaries, refusals};
+    use crate::rules::refusals;
+    use crate::tally::boundaries;
 
     #[test]
     fn named_cases_hold() {

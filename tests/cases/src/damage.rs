@@ -61,7 +61,7 @@ pub fn refusal_of_flip(words: &[u32], word: usize, bit: u32) -> u32 {
 }
 
 /// Blocks with random free header bits.
-pub fn free_bits(rng: &mut Rng, blocks: &mut [Block]) {
+fn free_bits(rng: &mut Rng, blocks: &mut [Block]) {
     for block in blocks {
         block.free_low = rng.word() & 0x00FF_FFFF;
         block.free_high = rng.word() as u8;
@@ -69,7 +69,7 @@ pub fn free_bits(rng: &mut Rng, blocks: &mut [Block]) {
 }
 
 /// Each table cut between entries at random; a table's blocks keep their order.
-pub fn split(rng: &mut Rng, lists: &Lists) -> Vec<Vec<Block>> {
+fn split(rng: &mut Rng, lists: &Lists) -> Vec<Vec<Block>> {
     let mut by_table = Vec::new();
     for row in ROWS {
         let entries = lists.of(row.table);
@@ -85,7 +85,7 @@ pub fn split(rng: &mut Rng, lists: &Lists) -> Vec<Vec<Block>> {
 }
 
 /// Blocks of several tables in one random order that keeps each table's own.
-pub fn interleave(rng: &mut Rng, by_table: Vec<Vec<Block>>) -> Vec<Block> {
+fn interleave(rng: &mut Rng, by_table: Vec<Vec<Block>>) -> Vec<Block> {
     let mut turns = Vec::new();
     for (table, blocks) in by_table.iter().enumerate() {
         turns.extend(vec![table; blocks.len()]);
@@ -108,7 +108,7 @@ pub fn rearranged(rng: &mut Rng, lists: &Lists) -> Vec<u32> {
 }
 
 /// The plain blocks in another order.
-pub fn reordered(rng: &mut Rng, lists: &Lists) -> Vec<u32> {
+pub(crate) fn reordered(rng: &mut Rng, lists: &Lists) -> Vec<u32> {
     let mut blocks = plain_blocks(lists);
     rng.shuffle(&mut blocks);
     stream_of(&blocks, End::default())
@@ -124,6 +124,6 @@ pub fn one_entry_a_block(lists: &Lists) -> Vec<u32> {
     stream_of(&blocks, End::default())
 }
 
-pub fn random_end(rng: &mut Rng) -> End {
+fn random_end(rng: &mut Rng) -> End {
     End { first: rng.word(), free_high: rng.word() as u8 }
 }

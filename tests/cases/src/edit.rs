@@ -34,7 +34,7 @@ pub fn edited_image(rng: &mut Rng, image: &[u32]) -> Vec<u32> {
 }
 
 /// A field of one entry put to this value, whether a load gives it or not.
-pub fn put_value(image: &mut [u32], field: Field, number: usize, value: u64) {
+pub(crate) fn put_value(image: &mut [u32], field: Field, number: usize, value: u64) {
     let first = start_of(field.table) + number * field.table.words();
     put_field(&mut image[first..first + field.table.words()], field, value);
 }
@@ -92,7 +92,7 @@ pub fn edited_ledger(rng: &mut Rng, image: &[u32], ledger: &Ledger) -> Ledger {
 }
 
 /// One random edit of a load state.
-pub fn edited_state(rng: &mut Rng, state: &LoadState) -> LoadState {
+pub(crate) fn edited_state(rng: &mut Rng, state: &LoadState) -> LoadState {
     let mut edited = *state;
     let room = (state.table.words() * state.table.most()) as u64;
     match rng.below(8) {

@@ -32,7 +32,7 @@ pub fn write(folder: &Path, seed: u64, generated_cases: usize) -> io::Result<usi
 }
 
 /// Every case that is a stream and a list.
-pub fn all(seed: u64, generated_cases: usize) -> Vec<Case> {
+pub(crate) fn all(seed: u64, generated_cases: usize) -> Vec<Case> {
     let mut rng = Rng::new(seed);
     let mut cases = named();
     cases.extend(fixed::cases());

@@ -26,10 +26,10 @@ pub enum Profile {
 }
 
 /// VLANs that frames and tables have in common.
-pub const VLANS: [u64; 6] = [1, 0, 2, 5, 77, 4095];
+pub(crate) const VLANS: [u64; 6] = [1, 0, 2, 5, 77, 4095];
 
 /// Addresses that frames and tables have in common.
-pub const ADDRESSES: [u64; 5] = [A, B, C, 0x0102_0304_0506, BROADCAST];
+const ADDRESSES: [u64; 5] = [A, B, C, 0x0102_0304_0506, BROADCAST];
 
 pub fn random_config(rng: &mut Rng, profile: Profile) -> Lists {
     match profile {
@@ -254,7 +254,7 @@ fn wild(rng: &mut Rng) -> Lists {
 }
 
 /// Breaks this rule; the rules before it stay kept.
-pub fn break_rule(rng: &mut Rng, lists: &mut Lists, rule: u32) {
+fn break_rule(rng: &mut Rng, lists: &mut Lists, rule: u32) {
     match rule {
         20 => break_20(rng, lists),
         21 => {

@@ -2,10 +2,10 @@
 //! The generators are a library, so that a test that links another program can use them too.
 
 pub mod boundaries;
-pub mod boundary_calls;
-pub mod boundary_frames;
-pub mod boundary_records;
-pub mod boundary_streams;
+mod boundary_calls;
+mod boundary_frames;
+mod boundary_records;
+mod boundary_streams;
 pub mod build;
 pub mod case;
 pub mod check;
@@ -15,11 +15,11 @@ pub mod edit;
 pub mod files;
 pub mod fixed;
 pub mod generate;
-pub mod named_calls;
-pub mod named_frames;
-pub mod named_program;
+mod named_calls;
+mod named_frames;
+mod named_program;
 pub mod named_streams;
-pub mod properties;
+mod properties;
 pub mod rng;
 pub mod rules;
-pub mod tally;
+mod tally;

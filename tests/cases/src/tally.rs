@@ -5,7 +5,7 @@ use std::collections::BTreeMap;
 use reference::tables::ROWS;
 
 use crate::case::{Case, Side};
-use crate::rules::{NEEDED, RULES};
+use crate::rules::{refusals, NEEDED};
 
 /// Boundaries of which both sides must be hit. A name with `{row}` is one for each row, with its
 /// ID; one with `{needed}` is one for each table that rule 20 asks for.
@@ -107,17 +107,12 @@ pub fn boundaries() -> Vec<String> {
     names
 }
 
-/// Every refusal: framing, the loading rules, calls, lists.
-pub fn refusals() -> Vec<u32> {
-    (1..=10).chain(RULES.iter().copied()).chain(30..=39).chain(50..=54).collect()
-}
-
 #[derive(Default)]
 pub struct Tally {
-    pub refusals: BTreeMap<u32, u64>,
-    pub drops: BTreeMap<u32, u64>,
-    pub sides: BTreeMap<(String, Side), u64>,
-    pub loaded: u64,
+    refusals: BTreeMap<u32, u64>,
+    drops: BTreeMap<u32, u64>,
+    sides: BTreeMap<(String, Side), u64>,
+    loaded: u64,
     pub sent: u64,
     pub passed: u64,
     pub failures: Vec<String>,

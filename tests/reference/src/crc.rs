@@ -2,13 +2,13 @@
 //! Document 01, "The stream": each word's low byte first; 123456789 gives CBF43926.
 
 /// The register before the first byte.
-pub const START: u32 = 0xFFFF_FFFF;
+pub(crate) const START: u32 = 0xFFFF_FFFF;
 
 /// The polynomial of IEEE 802.3, lowest power in the highest bit.
 const POLYNOMIAL: u32 = 0xEDB8_8320;
 
 /// One byte more, its low bit first.
-pub fn add_byte(register: u32, byte: u8) -> u32 {
+fn add_byte(register: u32, byte: u8) -> u32 {
     let mut register = register;
     for bit in 0..8 {
         let fed_bit = u32::from(byte >> bit) & 1;
@@ -22,7 +22,7 @@ pub fn add_byte(register: u32, byte: u8) -> u32 {
 }
 
 /// One word more, its low byte first.
-pub fn add_word(register: u32, word: u32) -> u32 {
+pub(crate) fn add_word(register: u32, word: u32) -> u32 {
     let mut register = register;
     for byte in word.to_le_bytes() {
         register = add_byte(register, byte);
@@ -44,18 +44,14 @@ pub fn of_words(words: &[u32]) -> u32 {
     finish(register)
 }
 
-/// The checksum of some bytes.
-pub fn of_bytes(bytes: &[u8]) -> u32 {
-    let mut register = START;
-    for &byte in bytes {
-        register = add_byte(register, byte);
-    }
-    finish(register)
-}
-
 #[cfg(test)]
 mod tests {
     use super::*;
+
+    /// The checksum of some bytes.
+    fn of_bytes(bytes: &[u8]) -> u32 {
+        finish(bytes.iter().fold(START, |register, &byte| add_byte(register, byte)))
+    }
 
     #[test]
     fn the_check_value_of_document_01() {

@@ -17,7 +17,7 @@ pub const FIRST_COUNT: usize = entry_words(ROWS);
 pub const MARK: usize = FIRST_COUNT + ROWS.len();
 
 /// The mark of a loaded image; any other word is "not marked".
-pub const LOADED: u32 = 1;
+pub(crate) const LOADED: u32 = 1;
 
 /// Words that the entries of these tables have at most.
 const fn entry_words(rows: &[Row]) -> usize {
@@ -58,12 +58,12 @@ pub fn count(image: &[u32], table: Table) -> usize {
 }
 
 /// Some count is above its table's most entries.
-pub fn some_count_above_limit(image: &[u32]) -> bool {
+pub(crate) fn some_count_above_limit(image: &[u32]) -> bool {
     ROWS.iter().any(|row| count(image, row.table) > row.most)
 }
 
 /// Marked, and with counts that a load can give. Where this fails, frames are refused with 30.
-pub fn is_loaded(image: &[u32]) -> bool {
+pub(crate) fn is_loaded(image: &[u32]) -> bool {
     image[MARK] == LOADED && !some_count_above_limit(image) && !rules::rule_20_broken(image)
 }
 
@@ -74,12 +74,12 @@ pub fn entry(image: &[u32], table: Table, number: usize) -> &[u32] {
 }
 
 /// A field of one entry.
-pub fn value(image: &[u32], field: Field, number: usize) -> u64 {
+pub(crate) fn value(image: &[u32], field: Field, number: usize) -> u64 {
     read_field(entry(image, field.table, number), field)
 }
 
 /// A field of every entry that is loaded.
-pub fn values(image: &[u32], field: Field) -> Vec<u64> {
+pub(crate) fn values(image: &[u32], field: Field) -> Vec<u64> {
     let loaded = 0..count(image, field.table);
     loaded.map(|number| value(image, field, number)).collect()
 }

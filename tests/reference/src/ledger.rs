@@ -4,15 +4,15 @@
 use crate::image::{count, is_loaded, too_short, value};
 use crate::tables::{forwarding_parameters, policing, Table};
 
-pub const PORTS: usize = 5;
-pub const PARTITIONS: usize = 8;
+pub(crate) const PORTS: usize = 5;
+pub(crate) const PARTITIONS: usize = 8;
 pub const METERS: usize = 45;
 
 /// The last time that is a time: 2^48 - 1 microseconds.
 pub const LAST_TIME: u64 = (1 << 48) - 1;
 
 /// Credit of one byte, in millionths of a bit.
-pub const CREDIT_A_BYTE: u64 = 8_000_000;
+pub(crate) const CREDIT_A_BYTE: u64 = 8_000_000;
 
 /// A rate meter: credit in millionths of a bit, and when it was last brought up to date.
 #[derive(Clone, Copy, PartialEq, Eq, Debug)]

@@ -9,7 +9,7 @@ pub mod ledger;
 pub mod list;
 pub mod load;
 pub mod program;
-pub mod rules;
+mod rules;
 pub mod stream;
 pub mod tables;
 pub mod tile;

@@ -94,13 +94,8 @@ fn release_record(rest: &[u8]) -> Option<(Record<'_>, usize)> {
     Some((Record::Release { partition }, 2))
 }
 
-/// Runs the list from a ledger: the lines behind `config loaded`, and the ledger afterwards.
-pub fn run_list(
-    image: &[u32],
-    ledger: Ledger,
-    list: &[u8],
-    broke_off: bool,
-) -> (Vec<String>, Ledger) {
+/// Runs the list from a ledger: the lines behind `config loaded`.
+pub(crate) fn run_list(image: &[u32], ledger: Ledger, list: &[u8], broke_off: bool) -> Vec<String> {
     let mut lines = Vec::new();
     let mut ledger = ledger;
     let refusal = match Reader::open(list, broke_off) {
@@ -113,7 +108,7 @@ pub fn run_list(
     for port in 0..PORTS {
         lines.push(tile_line(image, &ledger, port));
     }
-    (lines, ledger)
+    lines
 }
 
 /// Runs record after record on one ledger; gives the refusal that ended the walk.

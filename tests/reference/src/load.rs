@@ -9,7 +9,7 @@ use crate::stream::{words_of, DEVICE_ID};
 use crate::tables::{Table, IDS_OF_TABLE_2};
 
 /// The most words of one write.
-pub const MOST_WORDS_A_WRITE: usize = 64;
+pub(crate) const MOST_WORDS_A_WRITE: usize = 64;
 
 /// What a load or a write answers.
 #[derive(Clone, Copy, PartialEq, Eq, Debug)]

@@ -47,8 +47,7 @@ fn loaded_lines(image: &[u32], list: &mut dyn Read) -> Vec<String> {
     match fresh_ledger(image) {
         Ok(ledger) => {
             let (list, broke_off) = read_list(list);
-            let (more_lines, _) = run_list(image, ledger, &list, broke_off);
-            lines.extend(more_lines);
+            lines.extend(run_list(image, ledger, &list, broke_off));
         }
         // Cannot be: a loaded image is long enough and marked.
         Err(number) => lines = refused_lines(number),

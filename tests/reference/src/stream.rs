@@ -56,7 +56,7 @@ impl Block {
     }
 
     /// The two words that the header checksum covers.
-    pub fn header(&self) -> [u32; 2] {
+    fn header(&self) -> [u32; 2] {
         let first = u32::from(self.id) << 24 | (self.free_low & 0x00FF_FFFF);
         let second = u32::from(self.free_high) << 24 | (self.data.len() as u32 & 0x00FF_FFFF);
         [first, second]

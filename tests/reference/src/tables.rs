@@ -85,7 +85,7 @@ impl Table {
 }
 
 /// The rows in ascending block ID, for who sends their blocks in that order.
-pub fn ascending() -> Vec<&'static Row> {
+pub(crate) fn ascending() -> Vec<&'static Row> {
     let mut rows: Vec<&Row> = ROWS.iter().collect();
     rows.sort_by_key(|row| row.id);
     rows
@@ -95,8 +95,8 @@ pub fn ascending() -> Vec<&'static Row> {
 #[derive(Clone, Copy, PartialEq, Eq, Debug)]
 pub struct Field {
     pub table: Table,
-    pub top: usize,
-    pub bottom: usize,
+    top: usize,
+    bottom: usize,
 }
 
 const fn field(table: Table, top: usize, bottom: usize) -> Field {
