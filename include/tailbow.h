@@ -159,7 +159,7 @@ void tailbow_fresh_load(struct tailbow_load *load);
  *                 any cutting into writes give the same image.
  * 1 to 8          The first framing rule broken, at a block in the order 8 for an end block; else 2, 3, 4, 5, 6, and 7 after the data.
  *                 The image is zero.
- * 20 to 25        The first loading rule broken. The image is zero.
+ * a rule's number The first loading rule broken. The image is zero.
  *
  * Words behind an answer are ignored. Afterwards *load is the state for the next write: after an answer it holds
  * TAILBOW_PHASE_TOLD and the answer, all else 0. The four bytes behind `table` are kept in any case. Neither 9 nor 10 is an answer here.

@@ -1,4 +1,4 @@
-//! The loading rules 20 to 25, the first broken one's number.
+//! The loading rules: the first broken one's number.
 
 use super::image::*;
 

@@ -46,7 +46,7 @@ impl Load {
     /// Refusals of the call, in this order, leave the image and the load as found: 31 for a buffer below
     /// [`IMAGE_WORDS`](crate::IMAGE_WORDS), 30 for a load already begun whose image holds a count above its limit or that has more
     /// words due than the block's table has room for, 32 for 0 words or more than 64. Once an answer has been told it is repeated, and
-    /// nothing is written. 1 to 8 and 20 to 25 leave the image zero; words behind an answer are ignored.
+    /// nothing is written. 1 to 8 and a loading rule's number leave the image zero; words behind an answer are ignored.
     pub fn write(&mut self, image: &mut [u32], words: &[u32]) -> Answer {
         Answer::of(raw::write(image, &mut self.flat, words))
     }
@@ -66,8 +66,8 @@ impl Default for Load {
 
 /// Loads a whole stream of words into a buffer's first [`IMAGE_WORDS`](crate::IMAGE_WORDS) words; its rest is never written.
 ///
-/// 31 leaves the buffer as found. Otherwise the answer is [`Answer::Loaded`], or 1 to 8, 10 or 20 to 25 with a zero image. It is
-/// never [`Answer::More`].
+/// 31 leaves the buffer as found. Otherwise the answer is [`Answer::Loaded`], or 1 to 8, 10 or a loading rule's number with a zero
+/// image. It is never [`Answer::More`].
 pub fn load_words(image: &mut [u32], words: &[u32]) -> Answer {
     Answer::of(raw::load_words(image, words))
 }

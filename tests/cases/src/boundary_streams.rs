@@ -18,7 +18,7 @@ pub fn cases(rng: &mut Rng) -> Vec<Case> {
     cases.extend(ids(rng));
     cases.extend(lengths(rng));
     cases.extend(rule_20(rng));
-    cases.extend(rules_21_to_25(rng));
+    cases.extend(later_rules(rng));
     cases
 }
 
@@ -164,7 +164,8 @@ fn rule_pair(
     vec![good.loaded().passes(boundary), bad.refused(rule).beyond(boundary)]
 }
 
-fn rules_21_to_25(rng: &mut Rng) -> Vec<Case> {
+/// Every rule behind 20, on both sides.
+fn later_rules(rng: &mut Rng) -> Vec<Case> {
     let mut cases = Vec::new();
     // 21: two VLANIDs one bit apart, and equal.
     let vlan = rng.between(2, 4095);

@@ -285,7 +285,7 @@ fn break_rule(rng: &mut Rng, lists: &mut Lists, rule: u32) {
             let units = rng.between(930 - others.min(930), 1023);
             lists.put(forwarding_parameters::part_spc(partition), 0, units);
         }
-        _ => {
+        25 => {
             if lists.of(Table::L2AddressLookup).is_empty() {
                 push_any(rng, lists, Table::L2AddressLookup, 1);
             }
@@ -294,6 +294,7 @@ fn break_rule(rng: &mut Rng, lists: &mut Lists, rule: u32) {
             let index = lists.get(address_lookup::INDEX, rng.place(last));
             lists.put(address_lookup::INDEX, last, index);
         }
+        _ => unreachable!("nothing here breaks rule {rule}"),
     }
 }
 

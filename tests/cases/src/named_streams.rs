@@ -320,12 +320,13 @@ fn breach(lists: &mut Lists, rule: u32) {
         22 => lists.put(mac_configuration::VLANID, 4, 9),
         23 => lists.put(policing::SHARINDX, 0, 63),
         24 => lists.put(forwarding_parameters::part_spc(0), 0, 930),
-        _ => {
+        25 => {
             for _ in 0..2 {
                 let number = lists.push_zero(Table::L2AddressLookup);
                 lists.put(address_lookup::INDEX, number, 7);
             }
         }
+        _ => unreachable!("nothing here breaks rule {rule}"),
     }
 }
 
