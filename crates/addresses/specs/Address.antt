@@ -4,8 +4,9 @@ use mathlib.Core.List.{List}
 use Prim.Native.Nat.{ℕ, _/_, _%_, _^_}
 use lib.Dec.{eqb}
 use Rattle.laws.specs.Scan.{some-below, least}
-use Rattle.layout.specs.Layout.{countOf}
-use Rattle.image.specs.Fields.{addressVlanid, macaddr, destports, enfport, index, sharedLearn}
+use Rattle.image.specs.Layout.{countOf}
+use Rattle.image.specs.declared.tables.Table.the-variants.{AddressLookup}
+use Rattle.fields.specs.Fields.{addressVlanid, macaddr, destports, enfport, index, sharedLearn}
 
 -- a port is in a mask: "port 0 the lowest bit"
 abbrev pub holds : ℕ → ℕ → Bool
@@ -31,8 +32,8 @@ bars image port vlan mac i =
 
 -- drop 6: "some 05 entry" does
 abbrev pub barred : List ℕ → ℕ → ℕ → ℕ → Bool
-barred image port vlan mac = some-below (countOf image 0) (λ i. bars image port vlan mac i)
+barred image port vlan mac = some-below (countOf image AddressLookup) (λ i. bars image port vlan mac i)
 
 -- "the 05 match on destination with the lowest INDEX"; of equal INDEX the first; the count of 05 where there is none
 abbrev pub destinationAt : List ℕ → ℕ → ℕ → ℕ
-destinationAt image vlan mac = least (countOf image 0) (λ i. matches image vlan mac i) (λ i. index image i)
+destinationAt image vlan mac = least (countOf image AddressLookup) (λ i. matches image vlan mac i) (λ i. index image i)

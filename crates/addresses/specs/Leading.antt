@@ -6,8 +6,9 @@ use Prim.Native.Nat.{ℕ, _+_, _%_}
 use lib.Dec.{eqb}
 use borrow.Author.Tests.{eq-eqb, ne-eqb}
 use Rattle.laws.specs.Scan.{some-below}
-use Rattle.layout.specs.Layout.{countOf}
-use Rattle.image.specs.Fields.{macaddr, enfport, destports, sharedLearn, addressVlanid, index}
+use Rattle.image.specs.Layout.{countOf}
+use Rattle.image.specs.declared.tables.Table.the-variants.{AddressLookup}
+use Rattle.fields.specs.Fields.{macaddr, enfport, destports, sharedLearn, addressVlanid, index}
 use Rattle.addresses.specs.Address.{holds, likeAddress, hasAddress, matches, bars}
 use Rattle.lookup.specs.Groups.{from, none-more}
 use Rattle.addresses.specs.Least.{Leads}
@@ -15,7 +16,7 @@ use Rattle.addresses.specs.declared.Best.{Best}
 
 -- after i entries: the match with the lowest INDEX and that INDEX, or the count of 05 and 1,024
 abbrev pub Leading : List ℕ → ℕ → ℕ → ℕ → Best → Type 0
-Leading image vlan mac i best = Leads (countOf image 0) 1024 (matches image vlan mac) (index image) i (best .entry) (best .low)
+Leading image vlan mac i best = Leads (countOf image AddressLookup) 1024 (matches image vlan mac) (index image) i (best .entry) (best .low)
 
 -- an address that ends otherwise is another
 no-like : (image : List ℕ) (mac key i : ℕ) → key ≡ mac % 268435456 → likeAddress image key i ≡ false → hasAddress image mac i ≡ false

@@ -53,7 +53,7 @@ and-second false b e = absurd (mathlib.Core.Bool.false≢true e)
 
 module _ {n top : ℕ} {p : ℕ → Bool} {key : ℕ → ℕ} {i b low : ℕ} where
   -- the index is the best so far
-  pub leads-take : Leads n top p key i b low → cond (p i) (ltb (key i) low) false ≡ true → Leads n top p key (i + 1) i (key i)
+  leads-take : Leads n top p key i b low → cond (p i) (ltb (key i) low) false ≡ true → Leads n top p key (i + 1) i (key i)
   leads-take h t = subst (λ (k : ℕ). Leads n top p key k i (key i)) (sym (add-one i)) (go h)
     where
       here : p i ≡ true
@@ -67,7 +67,7 @@ module _ {n top : ℕ} {p : ℕ → Bool} {key : ℕ → ℕ} {i b low : ℕ} wh
       go (best-yet e l m) = best-yet (lower p key i b e l here (subst (λ (k : ℕ). key i < k) m below)) (le-refl (suc i)) refl
 
   -- the best so far stays
-  pub leads-keep : Leads n top p key i b low → key i < top → cond (p i) (ltb (key i) low) false ≡ false → Leads n top p key (i + 1) b low
+  leads-keep : Leads n top p key i b low → key i < top → cond (p i) (ltb (key i) low) false ≡ false → Leads n top p key (i + 1) b low
   leads-keep h small t = subst (λ (k : ℕ). Leads n top p key k b low) (sym (add-one i)) (by-test (p i) (λ e. yes-this e h) (λ e. no-match e h))
     where
       no-match : p i ≡ false → Leads n top p key i b low → Leads n top p key (suc i) b low
@@ -115,7 +115,7 @@ leads-none n top p key = none-yet refl refl refl
 
 -- ---- the best so far, past a group
 -- the best so far stays past a group in which none passes
-pub leads-past : {n top : ℕ} {p : ℕ → Bool} {key : ℕ → ℕ} {b low : ℕ} (m i : ℕ) → ((j : ℕ) → key j < top) → Leads n top p key i b low → some-below m (from i p) ≡ false
+leads-past : {n top : ℕ} {p : ℕ → Bool} {key : ℕ → ℕ} {b low : ℕ} (m i : ℕ) → ((j : ℕ) → key j < top) → Leads n top p key i b low → some-below m (from i p) ≡ false
     → Leads n top p key (i + m) b low
 unfolding some-below
 leads-past {n} {top} {p} {key} {b} {low} zero i small l h = subst (λ (k : ℕ). Leads n top p key k b low) (sym (add-zero i)) l

@@ -1,11 +1,14 @@
 // Entries of 05 for an address: one that bars a source from a port, and the one for a destination. Searched by groups, as 07 is in `lookup`.
+use image::tables::Table;
 ghost use mathlib.Core.Path.{_≡_};
 ghost use mathlib.Core.Bool.{cond, not, false};
 ghost use Prim.Native.Nat.{_+_, _-_, _%_, _≤_, _<_};
 ghost use lib.Dec.{ltb};
 ghost use lib.ListN.{length};
-ghost use Rattle.layout.specs.Layout.{Held, imageWords, imageIn, countOf};
-ghost use Rattle.image.specs.Fields.{sharedLearn, macaddr, index};
+ghost use Rattle.image.specs.Layout.{Held, imageWords, imageIn, countOf};
+ghost use Rattle.image.specs.declared.tables.Table.the-variants.{AddressLookup, LookupParameters};
+ghost use Rattle.image.specs.Rows.{mostOf};
+ghost use Rattle.fields.specs.Fields.{sharedLearn, macaddr, index};
 ghost use Rattle.laws.specs.Scan.{some-below};
 ghost use Rattle.lookup.specs.Groups.{from};
 ghost use Rattle.addresses.specs.Address.{holds, likeAddress, matches, bars, barred, destinationAt};
@@ -21,29 +24,29 @@ pub fn holds(mask: u64, port: usize) -> bool
 
 // Has entry i the address, and the VLAN where VLANs are compared?
 fn matches(image: &[u32], shared: u64, vlan: u64, mac: u64, i: usize) -> bool
-    requires { ⌜ Held 0 i (now image) ⌝ }
+    requires { ⌜ Held AddressLookup i (now image) ⌝ }
     requires { ⌜ shared ≡ sharedLearn (imageIn (now image)) ⌝ }
     ensures { λ r. ⌜ r ≡ matches (imageIn (now (image .entry))) vlan mac i ⌝ }
 {
-    if image::address::macaddr(image, i) != mac {
+    if fields::address::macaddr(image, i) != mac {
         return false;
     }
     if shared == 1 {
         return true;
     }
-    image::address::vlanid(image, i) == vlan
+    fields::address::vlanid(image, i) == vlan
 }
 
 // Does entry i keep this source from this port?
 fn bars(image: &[u32], shared: u64, port: usize, vlan: u64, mac: u64, i: usize) -> bool
-    requires { ⌜ Held 0 i (now image) ⌝ }
+    requires { ⌜ Held AddressLookup i (now image) ⌝ }
     requires { ⌜ (shared ≡ sharedLearn (imageIn (now image))) × (port < 64) ⌝ }
     ensures { λ r. ⌜ r ≡ bars (imageIn (now (image .entry))) port vlan mac i ⌝ }
 {
-    if image::address::enfport(image, i) == 0 {
+    if fields::address::enfport(image, i) == 0 {
         return false;
     }
-    if holds(image::address::destports(image, i), port) {
+    if holds(fields::address::destports(image, i), port) {
         return false;
     }
     matches(image, shared, vlan, mac, i)
@@ -51,10 +54,10 @@ fn bars(image: &[u32], shared: u64, port: usize, vlan: u64, mac: u64, i: usize) 
 
 // The low 28 bits of entry i's MACADDR, and of the address that is looked for: four go side by side.
 fn short(image: &[u32], i: usize) -> u32
-    requires { ⌜ Held 0 i (now image) ⌝ }
+    requires { ⌜ Held AddressLookup i (now image) ⌝ }
     ensures { λ r. ⌜ (r ≡ macaddr (imageIn (now (image .entry))) i % 268435456) × (r < 268435456) ⌝ }
 {
-    image::address::macaddr_low(image, i) as u32
+    fields::address::macaddr_low(image, i) as u32
 }
 
 fn key_of(mac: u64) -> u32
@@ -65,7 +68,7 @@ fn key_of(mac: u64) -> u32
 
 // Do the low bits of none of entries i to i + 15 match?
 fn none_like(image: &[u32], key: u32, i: usize) -> bool
-    requires { ⌜ (imageWords ≤ length (now image)) × (countOf (imageIn (now image)) 0 ≤ 1024) × (i + 16 ≤ countOf (imageIn (now image)) 0) × (key < 268435456) ⌝ }
+    requires { ⌜ (imageWords ≤ length (now image)) × (countOf (imageIn (now image)) AddressLookup ≤ mostOf AddressLookup) × (i + 16 ≤ countOf (imageIn (now image)) AddressLookup) × (key < 268435456) ⌝ }
     ensures { λ r. ⌜ r ≡ not (some-below 16 (from i (likeAddress (imageIn (now (image .entry))) key))) ⌝ }
 {
     let mut all: u32 = 2147483648;
@@ -79,8 +82,8 @@ fn none_like(image: &[u32], key: u32, i: usize) -> bool
 
 // From entry i on by groups of sixteen: where the first group starts that has the like of the address, or where no whole group is left.
 fn next_like(image: &[u32], key: u32, i: usize, n: usize) -> usize
-    requires { ⌜ (imageWords ≤ length (now image)) × (countOf (imageIn (now image)) 0 ≤ 1024) × (key < 268435456) ⌝ }
-    requires { ⌜ (n ≡ countOf (imageIn (now image)) 0) × (i ≤ n) ⌝ }
+    requires { ⌜ (imageWords ≤ length (now image)) × (countOf (imageIn (now image)) AddressLookup ≤ mostOf AddressLookup) × (key < 268435456) ⌝ }
+    requires { ⌜ (n ≡ countOf (imageIn (now image)) AddressLookup) × (i ≤ n) ⌝ }
     ensures { λ r. ⌜ (i ≤ r) × (r ≤ n) × (some-below (r - i) (from i (likeAddress (imageIn (now (image .entry))) key)) ≡ false) ⌝ }
 {
     let mut j = i;
@@ -104,7 +107,7 @@ fn one_bars(
     i: usize,
     count: usize,
 ) -> bool
-    requires { ⌜ (imageWords ≤ length (now image)) × (countOf (imageIn (now image)) 0 ≤ 1024) × (i + count ≤ countOf (imageIn (now image)) 0) ⌝ }
+    requires { ⌜ (imageWords ≤ length (now image)) × (countOf (imageIn (now image)) AddressLookup ≤ mostOf AddressLookup) × (i + count ≤ countOf (imageIn (now image)) AddressLookup) ⌝ }
     requires { ⌜ (shared ≡ sharedLearn (imageIn (now image))) × (port < 64) ⌝ }
     ensures { λ r. ⌜ r ≡ some-below count (from i (bars (imageIn (now (image .entry))) port vlan mac)) ⌝ }
 {
@@ -120,12 +123,12 @@ fn one_bars(
 
 // Drop 6: does some entry keep this source from this port?
 pub fn barred(image: &[u32], port: usize, vlan: u64, mac: u64) -> bool
-    requires { ⌜ (imageWords ≤ length (now image)) × (countOf (imageIn (now image)) 0 ≤ 1024) × (countOf (imageIn (now image)) 5 ≤ 1) ⌝ }
+    requires { ⌜ (imageWords ≤ length (now image)) × (countOf (imageIn (now image)) AddressLookup ≤ mostOf AddressLookup) × (countOf (imageIn (now image)) LookupParameters ≤ mostOf LookupParameters) ⌝ }
     requires { ⌜ port < 64 ⌝ }
     ensures { λ r. ⌜ r ≡ barred (imageIn (now (image .entry))) port vlan mac ⌝ }
 {
-    let n = layout::count(image, 0);
-    let shared = image::parameters::shared_learn(image);
+    let n = image::count(image, Table::AddressLookup);
+    let shared = fields::parameters::shared_learn(image);
     let key = key_of(mac);
     let mut i = next_like(image, key, 0, n);
     while 16 <= n - i {
@@ -139,12 +142,12 @@ pub fn barred(image: &[u32], port: usize, vlan: u64, mac: u64) -> bool
 
 // Does entry i match, with an INDEX below the lowest so far?
 fn lower(image: &[u32], shared: u64, vlan: u64, mac: u64, i: usize, low: u64) -> bool
-    requires { ⌜ Held 0 i (now image) ⌝ }
+    requires { ⌜ Held AddressLookup i (now image) ⌝ }
     requires { ⌜ shared ≡ sharedLearn (imageIn (now image)) ⌝ }
     ensures { λ r. ⌜ r ≡ cond (matches (imageIn (now (image .entry))) vlan mac i) (ltb (index (imageIn (now (image .entry))) i) low) false ⌝ }
 {
     if matches(image, shared, vlan, mac, i) {
-        return image::address::index(image, i) < low;
+        return fields::address::index(image, i) < low;
     }
     false
 }
@@ -165,7 +168,7 @@ fn lowest(
     count: usize,
     best: Best,
 ) -> Best
-    requires { ⌜ (imageWords ≤ length (now image)) × (countOf (imageIn (now image)) 0 ≤ 1024) × (i + count ≤ countOf (imageIn (now image)) 0) ⌝ }
+    requires { ⌜ (imageWords ≤ length (now image)) × (countOf (imageIn (now image)) AddressLookup ≤ mostOf AddressLookup) × (i + count ≤ countOf (imageIn (now image)) AddressLookup) ⌝ }
     requires { ⌜ (shared ≡ sharedLearn (imageIn (now image))) × Leading (imageIn (now image)) vlan mac i best ⌝ }
     ensures { λ r. ⌜ Leading (imageIn (now (image .entry))) vlan mac (i + count) r ⌝ }
 {
@@ -176,7 +179,7 @@ fn lowest(
         let at = i + k;
         if lower(image, shared, vlan, mac, at, low) {
             entry = at;
-            low = image::address::index(image, at);
+            low = fields::address::index(image, at);
         }
         k += 1;
     }
@@ -185,11 +188,11 @@ fn lowest(
 
 // The match with the lowest INDEX, of equal ones the first; the count of 05 where nothing matches.
 pub fn destination(image: &[u32], vlan: u64, mac: u64) -> usize
-    requires { ⌜ (imageWords ≤ length (now image)) × (countOf (imageIn (now image)) 0 ≤ 1024) × (countOf (imageIn (now image)) 5 ≤ 1) ⌝ }
-    ensures { λ r. ⌜ (r ≡ destinationAt (imageIn (now (image .entry))) vlan mac) × (r ≤ countOf (imageIn (now (image .entry))) 0) ⌝ }
+    requires { ⌜ (imageWords ≤ length (now image)) × (countOf (imageIn (now image)) AddressLookup ≤ mostOf AddressLookup) × (countOf (imageIn (now image)) LookupParameters ≤ mostOf LookupParameters) ⌝ }
+    ensures { λ r. ⌜ (r ≡ destinationAt (imageIn (now (image .entry))) vlan mac) × (r ≤ countOf (imageIn (now (image .entry))) AddressLookup) ⌝ }
 {
-    let n = layout::count(image, 0);
-    let shared = image::parameters::shared_learn(image);
+    let n = image::count(image, Table::AddressLookup);
+    let shared = fields::parameters::shared_learn(image);
     let mut best = Best {
         entry: n,
         low: 1024,

@@ -1,4 +1,4 @@
--- Configuration K: its stream's words, its nine tables, and that the stream loads with answer 0 and these tables.
+-- Configuration K: its stream's words, its tables, and that the stream loads with answer 0 and these tables.
 pub mod Stream
 pub mod Tables
 pub mod Fields

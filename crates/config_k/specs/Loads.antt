@@ -1,18 +1,17 @@
 -- K's stream loads: it passes every framing rule with K's tables, and every loading rule. The first is computed from the definitions of document 01's
 -- rules over all 199 words; the second follows from K's fields, so that no test reads through the whole image.
 use mathlib.Core.Path.{_≡_, refl, sym, _∙_, ap, subst}
-use mathlib.Core.Bool.{Bool, false, cond}
+use mathlib.Core.Bool.{false, cond}
 use mathlib.Core.List.{List}
-use Prim.Native.Nat.{ℕ, zero, suc, _<_}
-use native.Mathlib.Nat.{le-refl, le-step}
+use Prim.Native.Nat.{ℕ, _<_}
 use lib.Dec.{eqb, lit<}
 use borrow.Author.Tests.{lt-ltb}
-use Rattle.laws.specs.Scan.{some-below, first, total, twice}
+use Rattle.laws.specs.Scan.{some-below, first, total, twice, none-all}
 use Rattle.crc.specs.Crc.{bit, bitsOut, byteIn, bytesIn, bytesOf, wordIn, wordsIn, finished, checksum}
-use Rattle.layout.specs.Layout.{imageOf}
-use Rattle.tables.specs.Tables.{kindOf}
-use Rattle.image.specs.Fields.{vlanid, index}
-use Rattle.layout.specs.Loaded.{incomplete}
+use Rattle.image.specs.Layout.{imageOf}
+use Rattle.image.specs.Blocks.{blockOf}
+use Rattle.fields.specs.Fields.{vlanid, index}
+use Rattle.image.specs.Loaded.{incomplete}
 use Rattle.rules.specs.Broken.{vlanTwice, vlanMissing, sharindxBeyond, spaceOver, indexTwice}
 use Rattle.rules.specs.Rules.{ruled}
 use Rattle.stream.specs.Paper.{Outcome, passed, blocks, framed, refusedWith, outcomeOf, loaded}
@@ -22,15 +21,10 @@ use Rattle.config_k.specs.Fields.{IsK, k-fields}
 
 -- every checksum, ID and length is right, and each table gets K's words
 pub k-framed : framed K ≡ passed kTables
-unfolding framed blocks kindOf first checksum finished wordsIn wordIn bytesOf bytesIn byteIn bitsOut bit kTables
+unfolding framed blocks blockOf checksum finished wordsIn wordIn bytesOf bytesIn byteIn bitsOut bit kTables
 k-framed = refl
 
 -- ---- none of the six rules is broken, each by what K's counts and fields are
-
-none : (n : ℕ) (p : ℕ → Bool) → ((i : ℕ) → i < n → p i ≡ false) → some-below n p ≡ false
-unfolding some-below
-none zero p f = refl
-none (suc n) p f = rw (none n p (λ i h. f i (le-step h)), f n (le-refl (suc n)))
 
 module _ (image : List ℕ) (k : IsK image) where
   not20 : incomplete image ≡ false
@@ -52,10 +46,10 @@ module _ (image : List ℕ) (k : IsK image) where
 
   not22 : vlanMissing image ≡ false
   unfolding first
-  not22 = none 5 _ (λ port h. rw (k .ports .vlan port h, k .counts .vlans, k .vlan .vlan))
+  not22 = none-all 5 _ (λ port h. rw (k .ports .vlan port h, k .counts .vlans, k .vlan .vlan))
 
   not23 : sharindxBeyond image ≡ false
-  not23 = rw (k .counts .policers) (none 45 _ (λ i h. rw (k .policing .itself i h, lt-ltb i 45 h)))
+  not23 = rw (k .counts .policers) (none-all 45 _ (λ i h. rw (k .policing .itself i h, lt-ltb i 45 h)))
 
   not24 : spaceOver image ≡ false
   unfolding total
@@ -87,10 +81,7 @@ pub k-loaded : loaded K ≡ record { number = 0; image = imageOf kTables }
 k-loaded =
     ap outcomeOf k-framed ∙ ap (λ (n : ℕ). cond (eqb n 0) (record { number = 0; image = imageOf kTables }) (refusedWith n)) k-ruled
 
-pub k-number : loaded K .number ≡ 0
-k-number = ap (λ (o : Outcome). o .number) k-loaded
-
-pub k-image : loaded K .image ≡ imageOf kTables
+k-image : loaded K .image ≡ imageOf kTables
 k-image = ap (λ (o : Outcome). o .image) k-loaded
 
 -- what K's stream loads is configuration K, field by field

@@ -1,9 +1,15 @@
--- Configuration K's nine tables (document 01, "The verdict program"), each entry made of its fields at the manual's bottom bits. A field that K does not
+-- Configuration K's tables (document 01, "The verdict program"), each entry made of its fields at the manual's bottom bits. A field that K does not
 -- give is zero.
 use mathlib.Core.Path.{_≡_, refl}
+use mathlib.Core.Bool.{cond}
 use mathlib.Core.List.{List, [], _∷_, _++_}
 use Prim.Native.Nat.{ℕ, zero, suc, _+_, _-_, _*_, _/_, _%_, _^_}
-use lib.ListN.{getD, replicate}
+use lib.Dec.{eqb}
+use lib.ListN.{replicate}
+use Rattle.image.specs.Rows.{Row, rows, indexOf}
+use Rattle.image.specs.Layout.{listOf}
+use Rattle.image.specs.declared.tables.Table.{Table}
+use Rattle.image.specs.declared.tables.Table.the-variants.{AddressLookup, Policing, VlanLookup, Forwarding, MacConfiguration, LookupParameters, ForwardingParameters, GeneralParameters, XmiiModeParameters}
 
 -- an entry of n words, low word first
 abbrev pub words : ℕ → ℕ → List ℕ
@@ -48,21 +54,39 @@ mac = words 7 (0 * 2 ^ 22 + 1 * 2 ^ 10 + 0 * 2 ^ 5 + 1 * 2 ^ 2 + 1 * 2 ^ 1)
 abbrev pub spaces : List ℕ
 spaces = words 3 (1 * 2 ^ 13)
 
--- the nine in ascending block ID; "11 and 4E one zero entry each"
-unfoldable pub kTables : List (List ℕ)
-kTables =
-    []
-    ∷ entries 45 policing
-    ∷ vlan
-    ∷ (entries 5 port ++ entries 8 priority)
-    ∷ entries 5 (λ i. mac)
-    ∷ []
-    ∷ spaces
-    ∷ replicate 10 0
-    ∷ replicate 1 0
+-- a table and the words that K brings to it
+record Brought : Type 0 where
+  table : Table
+  entries : List ℕ
+
+abbrev to : Table → List ℕ → Brought
+to t l = record { table = t; entries = l }
+
+-- "11 and 4E one zero entry each"; "05 and 0D absent": not one word, and so not one zero entry
+abbrev brought : List Brought
+brought =
+    to Policing (entries 45 policing)
+    ∷ to VlanLookup vlan
+    ∷ to Forwarding (entries 5 port ++ entries 8 priority)
+    ∷ to MacConfiguration (entries 5 (λ i. mac))
+    ∷ to ForwardingParameters spaces
+    ∷ to GeneralParameters (replicate 10 0)
+    ∷ to XmiiModeParameters (replicate 1 0)
     ∷ []
 
--- "05 and 0D absent": not one word, and so not one zero entry
-pub k-absent : (getD kTables 0 [] ≡ []) × (getD kTables 5 [] ≡ [])
+-- a table's words among those
+abbrev wordsFor : Table → List Brought → List ℕ
+wordsFor t [] = []
+wordsFor t (b ∷ bs) = cond (eqb (indexOf t) (indexOf (b .table))) (b .entries) (wordsFor t bs)
+
+-- a list for each of some rows
+abbrev listsOf : List Row → List (List ℕ)
+listsOf [] = []
+listsOf (r ∷ rs) = wordsFor (r .table) brought ∷ listsOf rs
+
+unfoldable pub kTables : List (List ℕ)
+kTables = listsOf rows
+
+pub k-absent : (listOf kTables AddressLookup ≡ []) × (listOf kTables LookupParameters ≡ [])
 unfolding kTables
 k-absent = (refl, refl)

@@ -10,12 +10,12 @@ use lib.Bits.{bitXor, differ, xor-lt, xor-comm, xor-self, xor-zero-r, xor-mod, x
 use lib.ListN.{length, getD, take, drop, length-drop}
 use lib.Seq.{drop-cons, take-all}
 use native.Mathlib.Numerals.{add-one}
-use Rattle.crc.specs.Crc.{bit, bitsOut, byteIn, bytesIn, bytesOf, wordIn, wordsIn, start, finished, checksum}
+use Rattle.crc.specs.Crc.{bit, bitsOut, byteIn, bytesIn, bytesOf, wordIn, wordsIn}
 use Rattle.crc.specs.Xor.{odd-lt, xor-odd, xor-half, xor-assoc, xor-pairs}
 
 -- ---- a run in parts
 
-pub bytesIn-append : (r : ℕ) (bs cs : List ℕ) → bytesIn r (bs ++ cs) ≡ bytesIn (bytesIn r bs) cs
+bytesIn-append : (r : ℕ) (bs cs : List ℕ) → bytesIn r (bs ++ cs) ≡ bytesIn (bytesIn r bs) cs
 unfolding bytesIn
 bytesIn-append r [] cs = refl
 bytesIn-append r (b ∷ bs) cs = bytesIn-append (byteIn r b) bs cs
@@ -25,22 +25,13 @@ unfolding wordsIn
 wordsIn-append r [] ws = refl
 wordsIn-append r (v ∷ vs) ws = wordsIn-append (wordIn r v) vs ws
 
-pub wordsIn-snoc : (r : ℕ) (ws : List ℕ) (w : ℕ) → wordsIn r (ws ++ (w ∷ [])) ≡ wordIn (wordsIn r ws) w
-unfolding wordsIn
-wordsIn-snoc r ws w = wordsIn-append r ws (w ∷ [])
-
--- the checksum of two words, as a block's header has it
-pub checksum-two : (v w : ℕ) → checksum (v ∷ w ∷ []) ≡ finished (wordIn (wordIn start v) w)
-unfolding checksum wordsIn
-checksum-two v w = refl
-
 -- the bytes of words, each word's low byte first
 unfoldable pub bytesOfAll : List ℕ → List ℕ
 bytesOfAll [] = []
 bytesOfAll (w ∷ ws) = bytesOf w ++ bytesOfAll ws
 
 -- words go in as their bytes do
-pub wordsIn-bytes : (r : ℕ) (ws : List ℕ) → wordsIn r ws ≡ bytesIn r (bytesOfAll ws)
+wordsIn-bytes : (r : ℕ) (ws : List ℕ) → wordsIn r ws ≡ bytesIn r (bytesOfAll ws)
 unfolding wordsIn wordIn bytesIn bytesOfAll
 wordsIn-bytes r [] = refl
 wordsIn-bytes r (w ∷ ws) = wordsIn-bytes (wordIn r w) ws ∙ sym (bytesIn-append r (bytesOf w) (bytesOfAll ws))
@@ -56,7 +47,7 @@ unfolding bitsOut
 bitsOut-lt zero r h = h
 bitsOut-lt (suc k) r h = bitsOut-lt k (bit r) (bit-lt r h)
 
-pub byteIn-lt : (r b : ℕ) → r < 2 ^ 32 → b < 2 ^ 32 → byteIn r b < 2 ^ 32
+byteIn-lt : (r b : ℕ) → r < 2 ^ 32 → b < 2 ^ 32 → byteIn r b < 2 ^ 32
 unfolding byteIn
 byteIn-lt r b h g = bitsOut-lt 8 (bitXor r b) (xor-lt 32 r b h g)
 
@@ -65,18 +56,10 @@ unfolding wordIn bytesIn bytesOf
 wordIn-lt r w h =
     byteIn-lt _ _ (byteIn-lt _ _ (byteIn-lt _ _ (byteIn-lt _ _ h (omega arith)) (omega arith)) (omega arith)) (omega arith)
 
-pub wordsIn-lt : (r : ℕ) (ws : List ℕ) → r < 2 ^ 32 → wordsIn r ws < 2 ^ 32
+wordsIn-lt : (r : ℕ) (ws : List ℕ) → r < 2 ^ 32 → wordsIn r ws < 2 ^ 32
 unfolding wordsIn
 wordsIn-lt r [] h = h
 wordsIn-lt r (w ∷ ws) h = wordsIn-lt (wordIn r w) ws (wordIn-lt r w h)
-
-pub finished-lt : (r : ℕ) → r < 2 ^ 32 → finished r < 2 ^ 32
-unfolding finished
-finished-lt r h = xor-lt 32 r 0xFFFF_FFFF h (lit< tt)
-
-pub checksum-lt : (ws : List ℕ) → checksum ws < 2 ^ 32
-unfolding checksum
-checksum-lt ws = finished-lt (wordsIn start ws) (wordsIn-lt start ws (lit< tt))
 
 -- ---- linearity over exclusive or
 
@@ -98,10 +81,6 @@ pub bitsOut-linear : (k a b : ℕ) → bitsOut k (bitXor a b) ≡ bitXor (bitsOu
 unfolding bitsOut
 bitsOut-linear zero a b = refl
 bitsOut-linear (suc k) a b = ap (bitsOut k) (bit-linear a b) ∙ bitsOut-linear k (bit a) (bit b)
-
-pub byteIn-linear : (a b v w : ℕ) → byteIn (bitXor a b) (bitXor v w) ≡ bitXor (byteIn a v) (byteIn b w)
-unfolding byteIn
-byteIn-linear a b v w = ap (bitsOut 8) (xor-pairs a b v w) ∙ bitsOut-linear 8 (bitXor a v) (bitXor b w)
 
 -- ---- bits that leave, in parts
 
@@ -151,7 +130,7 @@ wordIn-low r w =
 pub wordIn-bits : (r w : ℕ) → w < 2 ^ 32 → wordIn r w ≡ bitsOut 32 (bitXor r w)
 wordIn-bits r w h = wordIn-low r w ∙ ap (λ (x : ℕ). bitsOut 32 (bitXor r x)) (mod-eq-of-lt h)
 
-pub wordIn-linear : (a b v w : ℕ) → wordIn (bitXor a b) (bitXor v w) ≡ bitXor (wordIn a v) (wordIn b w)
+wordIn-linear : (a b v w : ℕ) → wordIn (bitXor a b) (bitXor v w) ≡ bitXor (wordIn a v) (wordIn b w)
 wordIn-linear a b v w =
     wordIn-low (bitXor a b) (bitXor v w)
     ∙ ap (λ (x : ℕ). bitsOut 32 (bitXor (bitXor a b) x)) (xor-mod v w 32)
@@ -176,7 +155,7 @@ wordsIn-linear a b (v ∷ vs) (w ∷ ws) e =
     ∙ wordsIn-linear (wordIn a v) (wordIn b w) vs ws (omega arith)
 
 -- two registers over the same words: what sets them apart is what set them apart before, as many bits later
-pub wordsIn-apart : (a b : ℕ) (ws : List ℕ) → bitXor (wordsIn a ws) (wordsIn b ws) ≡ bitsOut (32 * length ws) (bitXor a b)
+wordsIn-apart : (a b : ℕ) (ws : List ℕ) → bitXor (wordsIn a ws) (wordsIn b ws) ≡ bitsOut (32 * length ws) (bitXor a b)
 unfolding wordsIn
 wordsIn-apart a b [] = unfold bitsOut in refl
 wordsIn-apart a b (w ∷ ws) =

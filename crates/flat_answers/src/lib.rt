@@ -88,7 +88,7 @@ pub fn flat_verdict(verdict: Verdict) -> FlatVerdict
     }
 }
 
-pub fn flat_shown(tile: Tile) -> FlatTile
+fn flat_shown(tile: Tile) -> FlatTile
     ensures { λ r. ⌜ r ≡ flatShown tile ⌝ }
 {
     match tile {

@@ -4,17 +4,17 @@ use mathlib.Core.Bool.{Bool, true, false, cond, not}
 use mathlib.Core.List.{List, [], _∷_}
 use Prim.Native.Nat.{ℕ, _+_, _-_, _<_, _≤_}
 use native.Mathlib.Omega.{arith}
-use lib.Dec.{ltb, eqb}
+use lib.Dec.{ltb, leb, eqb}
 use lib.ListN.{length, getD, drop}
 use lib.Seq.{sets}
-use borrow.Author.Tests.{ltb-false, lt-ltb, eqb-true, not-false}
+use borrow.Author.Tests.{ltb-false, leb-false, lt-ltb, eqb-true, not-false}
 use Rattle.laws.specs.Chain.{hit, pass}
 use Rattle.crc.specs.Crc.{wordsIn}
 use Rattle.crc_both.specs.declared.Both.{Both}
-use Rattle.layout.specs.Layout.{imageWords}
-use Rattle.layout.specs.Loaded.{tooShort}
-use Rattle.tables.specs.Tables.{indexOf}
-use Rattle.tables.specs.declared.Table.{Table}
+use Rattle.image.specs.Layout.{imageWords}
+use Rattle.image.specs.Loaded.{tooShort}
+use Rattle.image.specs.Rows.{tableCount}
+use Rattle.image.specs.declared.tables.Table.{Table}
 use Rattle.stream.specs.Machine.{filling, Written, wrote}
 use Rattle.stream.specs.Paper.{Whole}
 use Rattle.stream.specs.declared.Answer.{Answer}
@@ -68,15 +68,15 @@ module _ (c buffer words : List ℕ) where
 -- ---- a place in the image: each test has failed
 
 -- the place of a block's data, by its table
-pub place-by : (buffer : List ℕ) (t : Table) (k placed due n r : ℕ) → r ≡ dataPlace buffer (indexOf t) placed due n → t ≡ tableOf k
-    → r ≡ dataPlace buffer (indexOf (tableOf k)) placed due n
-place-by buffer t k placed due n r p e = p ∙ ap (λ (x : Table). dataPlace buffer (indexOf x) placed due n) e
+pub place-by : (buffer : List ℕ) (t : Table) (k placed due n r : ℕ) → r ≡ dataPlace buffer t placed due n → t ≡ tableOf k
+    → r ≡ dataPlace buffer (tableOf k) placed due n
+place-by buffer t k placed due n r p e = p ∙ ap (λ (x : Table). dataPlace buffer x placed due n) e
 
 record Passed (c buffer : List ℕ) (n r : ℕ) : Type 0 where
   whole : tooShort buffer ≡ false
   in-block : low (getD c 0 0) ≡ 4
-  table : low (getD c 1 0) < 9
-  is : r ≡ dataPlace buffer (indexOf (loadIn c .table)) (loadIn c .placed) (loadIn c .due) n
+  table : low (getD c 1 0) < tableCount
+  is : r ≡ dataPlace buffer (loadIn c .table) (loadIn c .placed) (loadIn c .due) n
 
 all-failed : (x y z : Bool) (p : ℕ) → cond x imageWords (cond y imageWords (cond z imageWords p)) < imageWords
     → (x ≡ false) × (y ≡ false) × (z ≡ false) × (cond x imageWords (cond y imageWords (cond z imageWords p)) ≡ p)
@@ -88,9 +88,8 @@ all-failed false false false p h = (refl, refl, refl, refl)
 passed : (c buffer : List ℕ) (n r : ℕ) → r ≡ flatPlace c buffer n → r < imageWords → Passed c buffer n r
 unfolding flatPlace
 passed c buffer n r e h =
-    let q = all-failed (tooShort buffer) (not (eqb (low (getD c 0 0)) 4)) (ltb 8 (low (getD c 1 0))) _ (subst (λ (x : ℕ). x < imageWords) e h) in
-    let t : low (getD c 1 0) ≤ 8 = ltb-false 8 (low (getD c 1 0)) (q .2) in
-    record { whole = q .0; in-block = eqb-true (low (getD c 0 0)) 4 (not-false (eqb (low (getD c 0 0)) 4) (q .1)); table = omega arith; is = e ∙ q .3 }
+    let q = all-failed (tooShort buffer) (not (eqb (low (getD c 0 0)) 4)) (leb tableCount (low (getD c 1 0))) _ (subst (λ (x : ℕ). x < imageWords) e h) in
+    record { whole = q .0; in-block = eqb-true (low (getD c 0 0)) 4 (not-false (eqb (low (getD c 0 0)) 4) (q .1)); table = leb-false tableCount (low (getD c 1 0)) (q .2); is = e ∙ q .3 }
 
 -- ---- what the write leaves
 
@@ -111,7 +110,7 @@ module _ (c buffer words : List ℕ) (place : ℕ) (e : place ≡ flatPlace c bu
   by-data = data-write (loadIn c) buffer words place whole (ap (λ (n : ℕ). phaseOf n (high (getD c 0 0))) (passes .in-block)) (passes .is) h
 
   is-load : isLoad c ≡ true
-  is-load = ap (λ (n : ℕ). cond (ltb 5 n) false (ltb (low (getD c 1 0)) 9)) (passes .in-block) ∙ lt-ltb (low (getD c 1 0)) 9 (passes .table)
+  is-load = ap (λ (n : ℕ). cond (ltb 5 n) false (ltb (low (getD c 1 0)) tableCount)) (passes .in-block) ∙ lt-ltb (low (getD c 1 0)) tableCount (passes .table)
 
   -- inside a block the phase and the table are stored as they stand
   stays : (n s b : ℕ) → storedIn c (filling (loadIn c .table) (getD c 2 0 + n) (getD c 3 0 - n) s b) ≡ moved c n (joined s b)

@@ -3,7 +3,7 @@ use mathlib.Core.Path.{_≡_, sym, _∙_}
 use mathlib.Core.Bool.{cond, not}
 use mathlib.Core.List.{List}
 use Prim.Native.Nat.{ℕ}
-use Rattle.layout.specs.Loaded.{tooShort}
+use Rattle.image.specs.Loaded.{tooShort}
 use Rattle.stream.specs.Machine.{Written, wrote}
 use Rattle.stream.specs.Paper.{Whole, loadedWords, loadedBytes}
 use Rattle.flat_numbers.specs.Flat.{storedIn, isLoad, loadIn, numberOf}

@@ -3,13 +3,13 @@ use mathlib.Core.Path.{_≡_}
 use mathlib.Core.Bool.{cond, not}
 use mathlib.Core.List.{List}
 use Prim.Native.Nat.{ℕ, _+_, _^_, _<_, _≤_}
-use lib.Dec.{ltb, eqb}
+use lib.Dec.{leb, eqb}
 use lib.ListN.{length, getD}
 use lib.Seq.{sets}
 use Rattle.crc.specs.Crc.{wordsIn}
-use Rattle.layout.specs.Layout.{imageWords}
-use Rattle.layout.specs.Loaded.{tooShort}
-use Rattle.tables.specs.Tables.{indexOf}
+use Rattle.image.specs.Layout.{imageWords}
+use Rattle.image.specs.Loaded.{tooShort}
+use Rattle.image.specs.Rows.{tableCount}
 use Rattle.one_block.specs.Data.{dataPlace}
 use Rattle.flat_numbers.specs.Flat.{low, joined, tableOf, loadIn, moved}
 
@@ -18,7 +18,7 @@ unfoldable pub flatPlace : List ℕ → List ℕ → ℕ → ℕ
 flatPlace c buffer n =
     cond (tooShort buffer) imageWords
     (cond (not (eqb (low (getD c 0 0)) 4)) imageWords
-    (cond (ltb 8 (low (getD c 1 0))) imageWords (dataPlace buffer (indexOf (tableOf (low (getD c 1 0)))) (getD c 2 0) (getD c 3 0) n)))
+    (cond (leb tableCount (low (getD c 1 0))) imageWords (dataPlace buffer (tableOf (low (getD c 1 0))) (getD c 2 0) (getD c 3 0) n)))
 
 -- there is room for data words at a place: in the buffer, among the words due, and in the number of the words placed
 pub record Fits (numbers buffer words : List ℕ) (place : ℕ) : Type 0 where

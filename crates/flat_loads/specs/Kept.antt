@@ -10,10 +10,12 @@ use lib.ListN.{length, getD}
 use lib.Seq.{length-sets}
 use Rattle.crc.specs.Crc.{wordIn, start}
 use Rattle.crc.specs.Laws.{wordIn-lt}
-use Rattle.layout.specs.Layout.{imageIn}
-use Rattle.layout.specs.Loaded.{tooShort}
-use Rattle.tables.specs.declared.Table.{Table}
-use Rattle.stream.specs.Machine.{Machine, at, told, stepIn, step, run, damaged, outside, untouched, written, opened, wrote}
+use Rattle.image.specs.Layout.{imageIn, cleared}
+use Rattle.image.specs.Loaded.{tooShort}
+use Rattle.image.specs.declared.tables.Table.{Table}
+use Rattle.stream.specs.Machine.{Machine, at, told, begins, stepIn, step, run, damaged, outside, untouched, written, opened, wrote}
+use Rattle.stream.specs.declared.Header.{Header}
+use Rattle.stream.specs.declared.Header.the-variants.{Wrong, Right}
 use Rattle.stream.specs.declared.Phase.{Phase}
 use Rattle.stream.specs.declared.Phase.the-variants.{Device, Id, Length, Sum, Data, Told}
 use Rattle.stream.specs.declared.Load.{Load}
@@ -43,12 +45,16 @@ either : (b : Bool) (x y : Machine) → Kept x → Kept y → Kept (cond b x y)
 either true x y h k = h
 either false x y h k = k
 
+begun : (x : Header) (s n : ℕ) (buffer : List ℕ) → s < 4294967296 → Kept (begins x s n buffer)
+begun (Wrong number) s n buffer h = answered number (cleared buffer)
+begun (Right t) s n buffer h = plain Data t 0 n s start buffer h
+
 in-phase : (p : Phase) (l : Load) (buffer : List ℕ) (w : ℕ) → w < 4294967296 → Halves l → wordIn start w < 4294967296 → wordIn (l .stream) w < 4294967296
     → Kept (stepIn p l buffer w)
 in-phase Device l buffer w h o z s = search (either, answered, plain)
 in-phase Id l buffer w h o z s = record { load = record { first = h; stream = s } }
 in-phase Length l buffer w h o z s = record { load = record { first = o .first; stream = s } }
-in-phase Sum l buffer w h o z s = search (either, answered, plain)
+in-phase Sum l buffer w h o z s = search (either, answered, plain, begun)
 in-phase Data l buffer w h o z s = search (either, answered, plain)
 in-phase (Told n) l buffer w h o z s = record { load = o }
 

@@ -4,7 +4,7 @@ use mathlib.Core.Bool.{Bool, true, false, cond, not, true≢false}
 use mathlib.Core.List.{List}
 use Prim.Native.Nat.{ℕ}
 use lib.ListN.{length}
-use Rattle.layout.specs.Loaded.{tooShort}
+use Rattle.image.specs.Loaded.{tooShort}
 use Rattle.stream.specs.Machine.{Written, untouched, wrote}
 use Rattle.stream.specs.declared.Load.{Load}
 use Rattle.flat_numbers.specs.Flat.{loadIn, isLoad, storedIn}

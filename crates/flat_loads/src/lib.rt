@@ -4,11 +4,12 @@ use flat_numbers::HALF;
 use flat_numbers::MORE;
 use flat_numbers::is_load;
 use flat_numbers::number_of;
-use flat_numbers::table_of;
 use flat_states::load_in;
 use flat_states::move_on;
 use flat_states::store;
 use flat_states::sums_of;
+use image::tables;
+use image::tables::TABLES;
 ghost use mathlib.Core.Path.{_≡_};
 ghost use mathlib.Core.List.{[], _∷_};
 ghost use Rattle.flat_loads.specs.Calls.{WritesFlat, LoadsWords, LoadsBytes};
@@ -18,19 +19,19 @@ ghost use Rattle.flat_loads.specs.Data.{flatPlace, Fits, Takes};
 fn place_of(image: &[u32], numbers: &[u64; 6], n: usize) -> usize
     ensures { λ r. ⌜ r ≡ flatPlace (now (numbers .entry)) (now (image .entry)) n ⌝ }
 {
-    if layout::too_short(image) {
-        return layout::IMAGE_WORDS;
+    if image::too_short(image) {
+        return image::IMAGE_WORDS;
     }
     if numbers[0] % HALF != 4 {
-        return layout::IMAGE_WORDS;
+        return image::IMAGE_WORDS;
     }
-    let table = numbers[1] % HALF;
-    if 8 < table {
-        return layout::IMAGE_WORDS;
+    let table = (numbers[1] % HALF) as usize;
+    if TABLES <= table {
+        return image::IMAGE_WORDS;
     }
     one_block::data_place(
         image,
-        table_of(table),
+        tables::table_at(table),
         numbers[2] as usize,
         numbers[3] as usize,
         n,
@@ -63,7 +64,7 @@ fn take_words(image: &mut [u32], numbers: &mut [u64; 6], place: usize, words: &[
 fn write_any(image: &mut [u32], numbers: &mut [u64; 6], words: &[u32]) -> u32
     ensures { λ r. ⌜ WritesFlat (now (numbers .entry)) (now (image .entry)) (now (words .entry)) r (now (numbers .exit)) (now (image .exit)) ⌝ }
 {
-    if layout::too_short(image) {
+    if image::too_short(image) {
         return 31;
     }
     if !is_load(numbers) {
@@ -76,13 +77,13 @@ fn write_any(image: &mut [u32], numbers: &mut [u64; 6], words: &[u32]) -> u32
     number_of(answer)
 }
 
-// Words for a load. The buffer's first 11,456 words are the image. Mostly a write brings data of one block alone, which go in on the
+// Words for a load. The buffer's first words are the image. Mostly a write brings data of one block alone, which go in on the
 // numbers themselves.
 pub fn write(image: &mut [u32], load: &mut [u64; 6], words: &[u32]) -> u32
     ensures { λ r. ⌜ WritesFlat (now (load .entry)) (now (image .entry)) (now (words .entry)) r (now (load .exit)) (now (image .exit)) ⌝ }
 {
     let place = place_of(image, load, words.len());
-    if place < layout::IMAGE_WORDS {
+    if place < image::IMAGE_WORDS {
         if words.len() == 1 {
             return take_word(image, load, place, words[0]);
         }

@@ -6,9 +6,8 @@ use Prim.Native.Nat.{ℕ, _+_, _-_, _*_, _/_, _%_}
 use lib.Dec.{ltb}
 use lib.ListN.{getD}
 use lib.Seq.{sets}
-use Rattle.tables.specs.Tables.{indexOf, tables}
-use Rattle.tables.specs.declared.Table.{Table}
-use Rattle.tables.specs.declared.Table.the-variants.{AddressLookup}
+use Rattle.image.specs.Rows.{indexOf, tableCount, rowAt}
+use Rattle.image.specs.declared.tables.Table.{Table}
 use Rattle.stream.specs.Machine.{fresh}
 use Rattle.stream.specs.declared.Answer.{Answer}
 use Rattle.stream.specs.declared.Answer.the-variants.{More, Loaded, Refused}
@@ -70,11 +69,11 @@ abbrev pub phaseOf : ℕ → ℕ → Phase
 phaseOf number told = getD phases number (Told told)
 
 abbrev pub tableOf : ℕ → Table
-tableOf number = getD tables number AddressLookup
+tableOf number = rowAt number .table
 
--- the numbers are a load state's: its phase is one of six and its table one of nine; every other number stands as it is
+-- the numbers are a load state's: its phase is one of six and its table's place one of the rows; every other number stands as it is
 abbrev pub isLoad : List ℕ → Bool
-isLoad c = cond (ltb 5 (low (getD c 0 0))) false (ltb (low (getD c 1 0)) 9)
+isLoad c = cond (ltb 5 (low (getD c 0 0))) false (ltb (low (getD c 1 0)) tableCount)
 
 abbrev pub loadIn : List ℕ → Load
 loadIn c =

@@ -2,13 +2,13 @@
 // fields to a number but for the words placed and due, low half first: phase and told, table, placed, due, first and second, stream and block. The
 // upper half of the second number is no part of the state.
 // The phase is 0 for word 0, which is also a load not yet begun; 1, 2, 3 for a block's two header words and their checksum; 4 for its data
-// and their checksum; 5 once an answer has been told, which is `told`. The table is 0 to 8 in ascending block ID.
+// and their checksum; 5 once an answer has been told, which is `told`. The table is its place in the rows.
+use image::tables::TABLES;
 use stream::Answer;
 use stream::Phase;
-use tables::Table;
 ghost use mathlib.Core.Path.{_≡_};
 ghost use Prim.Native.Nat.{_<_};
-ghost use Rattle.flat_numbers.specs.Flat.{low, high, joined, phaseNumber, toldIn, phaseOf, tableOf, isLoad, numberOf, FreshLoad};
+ghost use Rattle.flat_numbers.specs.Flat.{low, high, joined, phaseNumber, toldIn, phaseOf, isLoad, numberOf, FreshLoad};
 
 // The number of "more", which document 01 gives none: no refusal has it.
 pub const MORE: u32 = 0xFFFF_FFFF;
@@ -84,7 +84,7 @@ pub fn is_load(numbers: &[u64; 6]) -> bool
     if 5 < numbers[0] % HALF {
         return false;
     }
-    numbers[1] % HALF < 9
+    ((numbers[1] % HALF) as usize) < TABLES
 }
 
 pub fn phase_of(number: u64, told: u32) -> Phase
@@ -97,24 +97,6 @@ pub fn phase_of(number: u64, told: u32) -> Phase
         3 => Phase::Sum,
         4 => Phase::Data,
         _ => Phase::Told(told),
-    }
-}
-
-// A number that no table has is never asked for: `is_load`, and `place_of` of `flat_loads`, refuse it.
-pub fn table_of(number: u64) -> Table
-    ensures { λ r. ⌜ r ≡ tableOf number ⌝ }
-{
-    match number {
-        0 => Table::AddressLookup,
-        1 => Table::Policing,
-        2 => Table::VlanLookup,
-        3 => Table::Forwarding,
-        4 => Table::MacConfiguration,
-        5 => Table::LookupParameters,
-        6 => Table::ForwardingParameters,
-        7 => Table::GeneralParameters,
-        8 => Table::XmiiModeParameters,
-        _ => Table::AddressLookup,
     }
 }
 

@@ -4,8 +4,8 @@ use mathlib.Core.List.{List, [], _∷_}
 use Prim.Native.Nat.{ℕ}
 use lib.ListN.{getD}
 use lib.Seq.{sets}
-use Rattle.tables.specs.Tables.{indexOf}
-use Rattle.tables.specs.declared.Table.{Table}
+use Rattle.image.specs.Rows.{indexOf}
+use Rattle.image.specs.declared.tables.Table.{Table}
 use Rattle.stream.specs.declared.Load.{Load}
 use Rattle.stream.specs.declared.Phase.{Phase}
 use Rattle.flat_numbers.specs.Flat.{low, high, joined, phaseNumber, toldIn, phaseOf, tableOf, loadIn, storedIn}

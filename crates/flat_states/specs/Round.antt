@@ -8,11 +8,9 @@ use lib.Dec.{ltb}
 use lib.ListN.{length, getD, set, drop}
 use lib.Seq.{sets, sets-eq, set-getD}
 use borrow.Author.Tests.{ltb-true, ltb-false, lt-ltb, le-ltb}
-use Rattle.tables.specs.Tables.{indexOf}
-use Rattle.tables.specs.declared.Table.{Table}
-use Rattle.tables.specs.declared.Table.the-variants.{AddressLookup, Policing, VlanLookup, Forwarding, MacConfiguration, LookupParameters, ForwardingParameters, GeneralParameters, XmiiModeParameters}
-use Rattle.stream.specs.Headers.{table-index}
-use Rattle.stream.specs.Runs.{index-lt}
+use Rattle.image.specs.Rows.{indexOf, tableCount}
+use Rattle.image.specs.RowLaws.{placed, place-of-row}
+use Rattle.image.specs.declared.tables.Table.{Table}
 use Rattle.stream.specs.declared.Phase.{Phase}
 use Rattle.stream.specs.declared.Phase.the-variants.{Device, Id, Length, Sum, Data, Told}
 use Rattle.stream.specs.declared.Load.{Load}
@@ -44,15 +42,15 @@ phase-kept (suc (suc (suc (suc zero)))) told h = refl
 phase-kept (suc (suc (suc (suc (suc zero))))) told h = refl
 phase-kept (suc (suc (suc (suc (suc (suc n)))))) told h = absurd (omega arith)
 
-pub table-kept : (n spare : ℕ) → n < 9 → joined (indexOf (tableOf n)) spare ≡ joined n spare
-table-kept n spare h = ap (λ (k : ℕ). joined k spare) (table-index n h)
+pub table-kept : (n spare : ℕ) → n < tableCount → joined (indexOf (tableOf n)) spare ≡ joined n spare
+table-kept n spare h = ap (λ (k : ℕ). joined k spare) (place-of-row n h)
 
-in-range : (a b : ℕ) → cond (ltb 5 a) false (ltb b 9) ≡ true → (a ≤ 5) × (b < 9)
+in-range : (a b : ℕ) → cond (ltb 5 a) false (ltb b tableCount) ≡ true → (a ≤ 5) × (b < tableCount)
 in-range a b e = by (ltb 5 a) refl e
   where
-    by : (t : Bool) → ltb 5 a ≡ t → cond t false (ltb b 9) ≡ true → (a ≤ 5) × (b < 9)
+    by : (t : Bool) → ltb 5 a ≡ t → cond t false (ltb b tableCount) ≡ true → (a ≤ 5) × (b < tableCount)
     by true q f = absurd (true≢false (sym f))
-    by false q f = (ltb-false 5 a q, ltb-true b 9 f)
+    by false q f = (ltb-false 5 a q, ltb-true b tableCount f)
 
 pub numbers-back : (c : List ℕ) → isLoad c ≡ true → storedIn c (loadIn c) ≡ c
 numbers-back c e =
@@ -76,15 +74,7 @@ phase-back spare Data = refl
 phase-back spare (Told n) = refl
 
 table-back : (t : Table) → tableOf (indexOf t) ≡ t
-table-back AddressLookup = refl
-table-back Policing = refl
-table-back VlanLookup = refl
-table-back Forwarding = refl
-table-back MacConfiguration = refl
-table-back LookupParameters = refl
-table-back ForwardingParameters = refl
-table-back GeneralParameters = refl
-table-back XmiiModeParameters = refl
+table-back t = placed t .back
 
 phase-fits : (p : Phase) → phaseNumber p ≤ 5
 phase-fits Device = omega arith
@@ -103,7 +93,7 @@ module _ (c : List ℕ) (l : Load) (six : length c ≡ 6) where
   pub state-back : Halves l → loadIn (storedIn c l) ≡ l
   state-back fits =
       let p : phaseNumber (l .phase) < 4294967296 = omega (arith, phase-fits (l .phase)) in
-      let t : indexOf (l .table) < 4294967296 = omega (arith, index-lt (l .table)) in
+      let t : indexOf (l .table) < 4294967296 = omega (arith, placed (l .table) .inside) in
       let f : l .first < 4294967296 = fits .first in
       let s : l .stream < 4294967296 = fits .stream in
       ap loadIn (sets-eq (numbersOf c l) c 0 (omega arith)) ∙ simp (low-joined, high-joined, phase-back, table-back)
@@ -111,5 +101,5 @@ module _ (c : List ℕ) (l : Load) (six : length c ≡ 6) where
   pub is-state : isLoad (storedIn c l) ≡ true
   is-state =
       let p : phaseNumber (l .phase) < 4294967296 = omega (arith, phase-fits (l .phase)) in
-      let t : indexOf (l .table) < 4294967296 = omega (arith, index-lt (l .table)) in
-      ap isLoad (sets-eq (numbersOf c l) c 0 (omega arith)) ∙ simp (low-joined, le-ltb 5 _ (phase-fits (l .phase)), lt-ltb _ 9 (index-lt (l .table)))
+      let t : indexOf (l .table) < 4294967296 = omega (arith, placed (l .table) .inside) in
+      ap isLoad (sets-eq (numbersOf c l) c 0 (omega arith)) ∙ simp (low-joined, le-ltb 5 _ (phase-fits (l .phase)), lt-ltb _ tableCount (placed (l .table) .inside))

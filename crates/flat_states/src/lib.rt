@@ -7,8 +7,8 @@ use flat_numbers::joined;
 use flat_numbers::low;
 use flat_numbers::phase_number;
 use flat_numbers::phase_of;
-use flat_numbers::table_of;
 use flat_numbers::told_in;
+use image::tables;
 use stream::Load;
 ghost use mathlib.Core.Path.{_≡_};
 ghost use Prim.Native.Nat.{_+_, _^_, _<_, _≤_};
@@ -24,7 +24,7 @@ pub fn store(numbers: &mut [u64; 6], load: Load)
     let told = told_in(high(numbers[0]), phase);
     let spare = high(numbers[1]);
     numbers[0] = joined(phase_number(phase), told);
-    numbers[1] = joined(tables::index_of(table) as u32, spare);
+    numbers[1] = joined(tables::row_of(table).place as u32, spare);
     numbers[2] = load.placed as u64;
     numbers[3] = load.due as u64;
     numbers[4] = joined(load.first, load.second);
@@ -37,7 +37,7 @@ pub fn load_in(numbers: &[u64; 6]) -> Load
 {
     Load {
         phase: phase_of(numbers[0] % HALF, high(numbers[0])),
-        table: table_of(numbers[1] % HALF),
+        table: tables::table_at((numbers[1] % HALF) as usize),
         placed: numbers[2] as usize,
         due: numbers[3] as usize,
         first: low(numbers[4]),

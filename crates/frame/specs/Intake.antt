@@ -1,9 +1,9 @@
 -- Steps 1 to 3: is the frame taken in, and with which VLAN and priority (document 01, "One frame, step by step").
-use mathlib.Core.Bool.{Bool, true, false, cond, not}
+use mathlib.Core.Bool.{true, false, cond, not}
 use mathlib.Core.List.{List}
 use Prim.Native.Nat.{ℕ}
 use lib.Dec.{ltb, eqb}
-use Rattle.image.specs.Fields.{vlanprio, portVlanid, drpuntag, ingress}
+use Rattle.fields.specs.Fields.{vlanprio, portVlanid, drpuntag, ingress}
 use Rattle.frame.specs.declared.Tag.{Tag}
 use Rattle.frame.specs.declared.Tag.the-variants.{Untagged, Tagged}
 use Rattle.frame.specs.declared.Intake.{Intake}

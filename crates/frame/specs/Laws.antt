@@ -1,20 +1,19 @@
 -- What a frame that was taken in has, and row (k) of document 01's proved table.
-use mathlib.Core.Path.{_≡_, refl, sym, _∙_, ap, subst}
+use mathlib.Core.Path.{_≡_, refl, sym, _∙_, ap}
 use mathlib.Core.Bool.{Bool, true, false, cond, not}
 use mathlib.Core.List.{List}
-use Prim.Native.Nat.{ℕ, suc, _+_, _%_, _/_, _<_, _≤_}
+use Prim.Native.Nat.{ℕ, _+_, _%_, _/_, _<_, _≤_}
 use native.Mathlib.Nat.{mod-lt}
-use lib.Pow.{pow-pos}
 use lib.Dec.{ltb, eqb, lit<}
 use lib.ListN.{length}
 use borrow.Author.Tests.{ltb-false}
-use Rattle.image.specs.Fields.{vlanprio, portVlanid, drpuntag, ingress}
+use Rattle.fields.specs.Fields.{vlanprio, portVlanid, drpuntag, ingress}
 use Rattle.frame.specs.declared.Tag.{Tag}
 use Rattle.frame.specs.declared.Tag.the-variants.{Untagged, Tagged}
 use Rattle.frame.specs.declared.Intake.{Intake}
 use Rattle.frame.specs.declared.Intake.the-variants.{Dropped, Taken}
 use Rattle.frame.specs.Bytes.{octetsOf, pairAt, tagOf}
-use Rattle.frame.specs.Intake.{untaggedOf, byTag, intakeOf}
+use Rattle.frame.specs.Intake.{byTag, intakeOf}
 
 -- a frame that is taken in has sixty bytes and a priority of three bits
 abbrev pub Whole : List ℕ → Intake → Type 0

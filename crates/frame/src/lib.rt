@@ -1,8 +1,8 @@
 // A frame's bytes: its addresses and its tag, and steps 1 to 3, which take it in.
 ghost use mathlib.Core.Path.{_≡_};
 ghost use Prim.Native.Nat.{_+_, _*_, _<_, _≤_};
-ghost use lib.ListN.{length, getD};
-ghost use Rattle.layout.specs.Layout.{imageIn};
+ghost use lib.ListN.{length};
+ghost use Rattle.image.specs.Layout.{imageIn};
 ghost use Rattle.image.specs.Sound.{Sound};
 ghost use Rattle.frame.specs.Bytes.{macAt, pairAt, tagOf};
 ghost use Rattle.frame.specs.Intake.{vlanOr, untaggedOf, byTag, intakeOf};
@@ -54,7 +54,7 @@ pub fn mac_at(frame: &[u8], at: usize) -> u64
     pair_at(frame, at) * 0x100000000 + pair_at(frame, at + 2) * 0x10000 + pair_at(frame, at + 4)
 }
 
-pub fn tag_of(frame: &[u8]) -> Tag
+fn tag_of(frame: &[u8]) -> Tag
     requires { ⌜ 60 ≤ length (now frame) ⌝ }
     ensures { λ r. ⌜ r ≡ tagOf (now (frame .entry)) ⌝ }
 {
@@ -76,7 +76,7 @@ fn vlan_or(image: &[u32], port: usize, vlan: u64) -> u64
     ensures { λ r. ⌜ r ≡ vlanOr (imageIn (now (image .entry))) port vlan ⌝ }
 {
     if vlan == 0 {
-        return image::mac::vlanid(image, port);
+        return fields::mac::vlanid(image, port);
     }
     vlan
 }
@@ -87,12 +87,12 @@ fn untagged(image: &[u32], port: usize) -> Intake
     requires { ⌜ port < 5 ⌝ }
     ensures { λ r. ⌜ r ≡ untaggedOf (imageIn (now (image .entry))) port ⌝ }
 {
-    if image::mac::drpuntag(image, port) != 0 {
+    if fields::mac::drpuntag(image, port) != 0 {
         return Intake::Dropped(3);
     }
     Intake::Taken {
-        vlan: image::mac::vlanid(image, port),
-        priority: image::mac::vlanprio(image, port),
+        vlan: fields::mac::vlanid(image, port),
+        priority: fields::mac::vlanprio(image, port),
         tagged: false,
     }
 }
@@ -126,7 +126,7 @@ pub fn take_in(image: &[u32], port: usize, frame: &[u8]) -> Intake
     if frame.len() < LEAST_BYTES {
         return Intake::Dropped(1);
     }
-    if image::mac::ingress(image, port) == 0 {
+    if fields::mac::ingress(image, port) == 0 {
         return Intake::Dropped(2);
     }
     by_tag(image, port, tag_of(frame))

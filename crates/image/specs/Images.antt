@@ -1,13 +1,15 @@
--- Facts about the image that nine lists fix, each by induction over the rows: its length, its counts, its mark, and that it gives back each entry.
+-- Facts about the image that a list for each table fixes, each by induction over the rows: its length, its counts, its mark, and that it gives back each entry.
 use mathlib.Core.Path.{_≡_, refl, sym, _∙_, ap, subst}
 use mathlib.Core.List.{List, [], _∷_, _++_, append-assoc}
-use Prim.Native.Nat.{ℕ, zero, suc, _+_, _-_, _*_, _/_, _<_, _≤_, min}
-use native.Mathlib.Nat.{add-zero, zero-add, add-suc, suc-add, le-of-suc-le-suc, not-suc-le-zero, min-eq-left, le-trans, le-add-left, add-assoc, sub-add-cancel}
+use Prim.Native.Nat.{ℕ, zero, suc, _+_, _-_, _*_, _/_, _<_, _≤_}
+use native.Mathlib.Nat.{add-zero, zero-add, add-suc, suc-add, le-of-suc-le-suc, not-suc-le-zero, min-eq-left, le-add-left}
 use native.Mathlib.Omega.{arith}
 use lib.ListN.{length, getD, take, drop, replicate, length-append, length-take, length-replicate}
-use lib.Seq.{take-append-le, drop-append-le, take-append-add, drop-append-add, drop-drop, take-take, getD-append-add, drop-at, length-take-le}
-use Rattle.tables.specs.Rows.{Row, rows, blank, room, before, sizeOf, mostOf, baseOf}
-use Rattle.layout.specs.Layout.{padded, entriesFrom, countsFrom, layout, imageOf, countOf, markOf, entryOf, entryWords, imageWords, countAt}
+use lib.Seq.{take-append-le, drop-append-le, take-append-add, drop-append-add, drop-drop, getD-append-add}
+use Rattle.image.specs.Rows.{Row, rows, blank, room, before, indexOf, tableCount, rowOf, sizeOf, startOf}
+use Rattle.image.specs.RowLaws.{placed}
+use Rattle.image.specs.Layout.{padded, entriesFrom, countsFrom, state, layout, listOf, countOf, markOf, entryOf, entryWords, imageWords}
+use Rattle.image.specs.declared.tables.Table.{Table}
 
 pub length-padded : (n : ℕ) (l : List ℕ) → length (padded n l) ≡ n
 length-padded n l =
@@ -21,12 +23,12 @@ length-entries k (r ∷ rs) lists =
     ∙ ap (λ (m : ℕ). m + length (entriesFrom (suc k) rs lists)) (length-padded (room r) (getD lists k []))
     ∙ ap (λ (m : ℕ). room r + m) (length-entries (suc k) rs lists)
 
-pub length-counts : (k : ℕ) (rs : List Row) (lists : List (List ℕ)) → length (countsFrom k rs lists) ≡ length rs
+length-counts : (k : ℕ) (rs : List Row) (lists : List (List ℕ)) → length (countsFrom k rs lists) ≡ length rs
 length-counts k [] lists = refl
 length-counts k (r ∷ rs) lists = ap suc (length-counts (suc k) rs lists)
 
 -- the count of the row at j, counted from k
-pub counts-at : (k : ℕ) (rs : List Row) (lists : List (List ℕ)) (j : ℕ) (rest : List ℕ) → j < length rs
+counts-at : (k : ℕ) (rs : List Row) (lists : List (List ℕ)) (j : ℕ) (rest : List ℕ) → j < length rs
     → getD (countsFrom k rs lists ++ rest) j 0 ≡ length (getD lists (k + j) []) / getD rs j blank .size
 counts-at k [] lists j rest h = absurd (not-suc-le-zero h)
 counts-at k (r ∷ rs) lists zero rest h = ap (λ (m : ℕ). length (getD lists m []) / r .size) (sym (add-zero k))
@@ -35,7 +37,7 @@ counts-at k (r ∷ rs) lists (suc j) rest h =
     ∙ ap (λ (m : ℕ). length (getD lists m []) / getD rs j blank .size) (suc-add k j ∙ sym (add-suc k j))
 
 -- behind the rooms of the rows before it stands the room of the row at j
-pub entries-at : (k : ℕ) (rs : List Row) (lists : List (List ℕ)) (j : ℕ) (rest : List ℕ) → j < length rs
+entries-at : (k : ℕ) (rs : List Row) (lists : List (List ℕ)) (j : ℕ) (rest : List ℕ) → j < length rs
     → drop (before j rs) (entriesFrom k rs lists ++ rest)
     ≡ padded (room (getD rs j blank)) (getD lists (k + j) []) ++ (entriesFrom (suc (k + j)) (drop (suc j) rs) lists ++ rest)
 entries-at k [] lists j rest h = absurd (not-suc-le-zero h)
@@ -55,22 +57,24 @@ entries-at k (r ∷ rs) lists (suc j) rest h =
 pub length-layout : (mark : ℕ) (lists : List (List ℕ)) → length (layout mark lists) ≡ imageWords
 unfolding layout
 length-layout mark lists =
-    length-append (entriesFrom 0 rows lists) (countsFrom 0 rows lists ++ (mark ∷ replicate 16 0))
-    ∙ ap (λ (m : ℕ). m + length (countsFrom 0 rows lists ++ (mark ∷ replicate 16 0))) (length-entries 0 rows lists)
+    length-append (entriesFrom 0 rows lists) (countsFrom 0 rows lists ++ state mark)
+    ∙ ap (λ (m : ℕ). m + length (countsFrom 0 rows lists ++ state mark)) (length-entries 0 rows lists)
 
-behind : (mark : ℕ) (lists : List (List ℕ)) (j : ℕ) → getD (layout mark lists) (entryWords + j) 0 ≡ getD (countsFrom 0 rows lists ++ (mark ∷ replicate 16 0)) j 0
+behind : (mark : ℕ) (lists : List (List ℕ)) (j : ℕ) → getD (layout mark lists) (entryWords + j) 0 ≡ getD (countsFrom 0 rows lists ++ state mark) j 0
 unfolding layout
 behind mark lists j =
     ap (λ (m : ℕ). getD (layout mark lists) (m + j) 0) (sym (length-entries 0 rows lists))
-    ∙ getD-append-add (entriesFrom 0 rows lists) (countsFrom 0 rows lists ++ (mark ∷ replicate 16 0)) j 0
+    ∙ getD-append-add (entriesFrom 0 rows lists) (countsFrom 0 rows lists ++ state mark) j 0
 
 -- a table's count is the number of its list's whole entries
-pub layout-count : (mark : ℕ) (lists : List (List ℕ)) (k : ℕ) → k < 9 → countOf (layout mark lists) k ≡ length (getD lists k []) / sizeOf k
-layout-count mark lists k h =
-    behind mark lists k ∙ counts-at 0 rows lists k (mark ∷ replicate 16 0) h ∙ ap (λ (m : ℕ). length (getD lists m []) / sizeOf k) (zero-add k)
+pub layout-count : (mark : ℕ) (lists : List (List ℕ)) (t : Table) → countOf (layout mark lists) t ≡ length (listOf lists t) / sizeOf t
+layout-count mark lists t =
+    behind mark lists (indexOf t)
+    ∙ counts-at 0 rows lists (indexOf t) (state mark) (placed t .inside)
+    ∙ ap (λ (k : ℕ). length (getD lists k []) / sizeOf t) (zero-add (indexOf t))
 
 pub layout-mark : (mark : ℕ) (lists : List (List ℕ)) → markOf (layout mark lists) ≡ mark
-layout-mark mark lists = behind mark lists 9
+layout-mark mark lists = behind mark lists tableCount
 
 -- a part of a list that lies in a room is there in the padded room
 in-room : (n a s : ℕ) (l rest : List ℕ) → length l ≤ n → a + s ≤ length l → take s (drop a (padded n l ++ rest)) ≡ take s (drop a l)
@@ -85,22 +89,21 @@ in-room n a s l rest fits inside =
         ap (λ (m : ℕ). take m (l ++ replicate n 0)) (sym (native.Mathlib.Nat.add-sub-of-le h))
         ∙ take-append-add l (replicate n 0) (n - length l)
 
--- an image gives back each table's entries: entry i of table k is the i-th of its list
-pub layout-entry : (mark : ℕ) (lists : List (List ℕ)) (k i : ℕ) → k < 9
-    → length (getD lists k []) ≤ room (getD rows k blank)
-    → i * sizeOf k + sizeOf k ≤ length (getD lists k [])
-    → entryOf (layout mark lists) k i ≡ take (sizeOf k) (drop (i * sizeOf k) (getD lists k []))
+-- an image gives back each table's entries: entry i of a table is the i-th of its list
+pub layout-entry : (mark : ℕ) (lists : List (List ℕ)) (t : Table) (i : ℕ) → length (listOf lists t) ≤ room (rowOf t)
+    → i * sizeOf t + sizeOf t ≤ length (listOf lists t)
+    → entryOf (layout mark lists) t i ≡ take (sizeOf t) (drop (i * sizeOf t) (listOf lists t))
 unfolding layout
-layout-entry mark lists k i h fits inside =
-    ap (λ (x : List ℕ). take (sizeOf k) x)
-    (sym (drop-drop (i * sizeOf k) (baseOf k) (layout mark lists))
-    ∙ ap (λ (x : List ℕ). drop (i * sizeOf k) x) (entries-at 0 rows lists k (countsFrom 0 rows lists ++ (mark ∷ replicate 16 0)) h))
+layout-entry mark lists t i fits inside =
+    ap (λ (x : List ℕ). take (sizeOf t) x)
+    (sym (drop-drop (i * sizeOf t) (startOf t) (layout mark lists))
+    ∙ ap (λ (x : List ℕ). drop (i * sizeOf t) x) (entries-at 0 rows lists (indexOf t) (countsFrom 0 rows lists ++ state mark) (placed t .inside)))
     ∙ ap
-    (λ (m : ℕ). take (sizeOf k)
-    (drop (i * sizeOf k)
-    (padded (room (getD rows k blank)) (getD lists m [])
-    ++ (entriesFrom (suc m) (drop (suc k) rows) lists ++ (countsFrom 0 rows lists ++ (mark ∷ replicate 16 0)))))) (zero-add k)
-    ∙ in-room (room (getD rows k blank)) (i * sizeOf k) (sizeOf k) (getD lists k [])
-    (entriesFrom (suc k) (drop (suc k) rows) lists ++ (countsFrom 0 rows lists ++ (mark ∷ replicate 16 0)))
+    (λ (k : ℕ). take (sizeOf t)
+    (drop (i * sizeOf t)
+    (padded (room (rowOf t)) (getD lists k []) ++ (entriesFrom (suc k) (drop (suc (indexOf t)) rows) lists ++ (countsFrom 0 rows lists ++ state mark)))))
+    (zero-add (indexOf t))
+    ∙ in-room (room (rowOf t)) (i * sizeOf t) (sizeOf t) (listOf lists t)
+    (entriesFrom (suc (indexOf t)) (drop (suc (indexOf t)) rows) lists ++ (countsFrom 0 rows lists ++ state mark))
     fits
     inside

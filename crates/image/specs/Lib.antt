@@ -1,6 +1,9 @@
--- What the fields of the image's tables are, what an image gives back, and what a sound one has.
-pub mod Fields
-pub mod Laws
+-- The image: its tables as rows, where each entry, each count and the mark stand, and when an image is not to be judged.
+pub mod Rows
+pub mod Blocks
+pub mod Layout
+pub mod RowLaws
+pub mod Ascending
+pub mod Loaded
 pub mod Images
-pub mod Proved
 pub mod Sound

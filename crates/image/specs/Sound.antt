@@ -1,80 +1,70 @@
 -- What an image that 30 does not refuse has: every count within its limit, and the entries that rule 20 asks for.
-use mathlib.Core.Path.{_≡_, refl, sym, _∙_, ap, subst}
-use mathlib.Core.Bool.{Bool, true, false, cond, not}
-use mathlib.Core.List.{List, [], _∷_}
-use Prim.Native.Nat.{ℕ, zero, suc, _+_, _<_, _≤_}
-use native.Mathlib.Nat.{add-zero, zero-add, add-suc, suc-add, le-of-suc-le-suc, not-suc-le-zero, pos-of-ne-zero}
-use lib.Dec.{ltb, eqb, lit<}
-use lib.ListN.{length, getD}
-use borrow.Author.Tests.{ltb-false, eqb-true, eqb-false, not-false}
+use mathlib.Core.Path.{_≡_, sym, _∙_, subst}
+use mathlib.Core.Bool.{Bool, false, not}
+use mathlib.Core.List.{List}
+use Prim.Native.Nat.{ℕ, _<_, _≤_}
+use native.Mathlib.Nat.{pos-of-ne-zero, lt-of-lt-of-le}
+use lib.Dec.{eqb, lit≤}
+use lib.ListN.{length}
+use borrow.Author.Tests.{ltb-false, le-ltb, eqb-true, eqb-false, not-false}
 use Rattle.laws.specs.Chain.{none-first, none-rest}
-use Rattle.tables.specs.Rows.{Row, rows, blank, mostOf}
-use Rattle.layout.specs.Layout.{imageWords, imageIn, countOf, markOf, Held}
-use Rattle.layout.specs.Loaded.{aboveFrom, overLimit, notSingle, incomplete, notLoaded}
+use Rattle.laws.specs.Scan.{none-at, none-all}
+use Rattle.image.specs.Rows.{indexOf, tableCount, rowAt, mostOf}
+use Rattle.image.specs.RowLaws.{placed}
+use Rattle.image.specs.Layout.{imageWords, imageIn, countOf, markOf, Held}
+use Rattle.image.specs.Loaded.{tooShort, above, overLimit, incomplete, notLoaded}
+use Rattle.image.specs.declared.tables.Table.{Table}
+use Rattle.image.specs.declared.tables.Table.the-variants.{Policing, VlanLookup, Forwarding, MacConfiguration, ForwardingParameters}
+
+-- 31's test failed: the buffer has an image
+pub has-room : (buffer : List ℕ) (short : Bool) → short ≡ tooShort buffer → short ≡ false → imageWords ≤ length buffer
+has-room buffer short e h = ltb-false (length buffer) imageWords (sym e ∙ h)
 
 -- every table's count is within its limit
 abbrev pub Within : List ℕ → Type 0
-Within image = (k : ℕ) → k < 9 → countOf image k ≤ mostOf k
+Within image = (t : Table) → countOf image t ≤ mostOf t
 
-from : (k : ℕ) (rs : List Row) (image : List ℕ) → aboveFrom k rs image ≡ false → (j : ℕ) → j < length rs
-    → countOf image (k + j) ≤ getD rs j blank .most
-from k [] image e j h = absurd (not-suc-le-zero h)
-from k (r ∷ rs) image e zero h =
-    subst (λ (m : ℕ). countOf image m ≤ r .most) (sym (add-zero k))
-    (ltb-false (r .most) (countOf image k) (none-first (ltb (r .most) (countOf image k)) (aboveFrom (suc k) rs image) e))
-from k (r ∷ rs) image e (suc j) h =
-    subst (λ (m : ℕ). countOf image m ≤ getD rs j blank .most) (suc-add k j ∙ sym (add-suc k j))
-    (from (suc k) rs image (none-rest (ltb (r .most) (countOf image k)) (aboveFrom (suc k) rs image) e) j (le-of-suc-le-suc h))
-
+-- 30's test of the limits is this
 pub within-limits : (image : List ℕ) → overLimit image ≡ false → Within image
 unfolding overLimit
-within-limits image e k h = subst (λ (m : ℕ). countOf image m ≤ mostOf k) (zero-add k) (from 0 rows image e k h)
+within-limits image e t =
+    subst (λ (u : Table). countOf image u ≤ mostOf u) (placed t .back)
+    (ltb-false _ _ (none-at tableCount (indexOf t) (λ k. above image (rowAt k .table)) e (placed t .inside)))
 
--- a buffer with an image whose counts are all within their limits, each count by its table's name
+pub limits-within : (image : List ℕ) → Within image → overLimit image ≡ false
+unfolding overLimit
+limits-within image w = none-all tableCount (λ k. above image (rowAt k .table)) (λ k h. le-ltb _ _ (w (rowAt k .table)))
+
+-- a buffer with an image whose counts are all within their limits
 pub record Bounded (buffer : List ℕ) : Type 0 where
   pub whole : imageWords ≤ length buffer
-  pub addresses : countOf (imageIn buffer) 0 ≤ 1024
-  pub policers : countOf (imageIn buffer) 1 ≤ 45
-  pub vlans : countOf (imageIn buffer) 2 ≤ 4096
-  pub forwardings : countOf (imageIn buffer) 3 ≤ 13
-  pub ports : countOf (imageIn buffer) 4 ≤ 5
-  pub lookups : countOf (imageIn buffer) 5 ≤ 1
-  pub spaces : countOf (imageIn buffer) 6 ≤ 1
+  pub within : Within (imageIn buffer)
 
-pub bounded : (buffer : List ℕ) → imageWords ≤ length buffer → Within (imageIn buffer) → Bounded buffer
-bounded buffer h w =
-    record {
-      whole = h;
-      addresses = w 0 (lit< tt);
-      policers = w 1 (lit< tt);
-      vlans = w 2 (lit< tt);
-      forwardings = w 3 (lit< tt);
-      ports = w 4 (lit< tt);
-      lookups = w 5 (lit< tt);
-      spaces = w 6 (lit< tt);
-    }
+-- an entry below its table's count is there to read
+pub held : (buffer : List ℕ) (t : Table) (i : ℕ) → Bounded buffer → i < countOf (imageIn buffer) t → Held t i buffer
+held buffer t i b h = record { whole = b .whole; within = b .within t; there = h }
 
 -- what rule 20 asks for is there
 pub record Complete (image : List ℕ) : Type 0 where
-  pub policing : 0 < countOf image 1
-  pub vlans : 0 < countOf image 2
-  pub forwarding : countOf image 3 ≡ 13
-  pub ports : countOf image 4 ≡ 5
-  pub spaces : countOf image 6 ≡ 1
+  pub policing : 0 < countOf image Policing
+  pub vlans : 0 < countOf image VlanLookup
+  pub forwarding : countOf image Forwarding ≡ 13
+  pub ports : countOf image MacConfiguration ≡ 5
+  pub spaces : countOf image ForwardingParameters ≡ 1
 
 pub complete : (image : List ℕ) → incomplete image ≡ false → Complete image
 unfolding incomplete
 complete image e =
-    let e2 = none-rest (eqb (countOf image 1) 0) _ e in
-    let e3 = none-rest (eqb (countOf image 2) 0) _ e2 in
-    let e4 = none-rest (not (eqb (countOf image 3) 13)) _ e3 in
-    let e5 = none-rest (not (eqb (countOf image 4) 5)) _ e4 in
+    let e2 = none-rest (eqb (countOf image Policing) 0) _ e in
+    let e3 = none-rest (eqb (countOf image VlanLookup) 0) _ e2 in
+    let e4 = none-rest (not (eqb (countOf image Forwarding) 13)) _ e3 in
+    let e5 = none-rest (not (eqb (countOf image MacConfiguration) 5)) _ e4 in
     record {
-      policing = pos-of-ne-zero (eqb-false _ 0 (none-first (eqb (countOf image 1) 0) _ e));
-      vlans = pos-of-ne-zero (eqb-false _ 0 (none-first (eqb (countOf image 2) 0) _ e2));
-      forwarding = eqb-true _ 13 (not-false _ (none-first (not (eqb (countOf image 3) 13)) _ e3));
-      ports = eqb-true _ 5 (not-false _ (none-first (not (eqb (countOf image 4) 5)) _ e4));
-      spaces = eqb-true _ 1 (not-false _ (none-first (not (eqb (countOf image 6) 1)) _ e5));
+      policing = pos-of-ne-zero (eqb-false _ 0 (none-first (eqb (countOf image Policing) 0) _ e));
+      vlans = pos-of-ne-zero (eqb-false _ 0 (none-first (eqb (countOf image VlanLookup) 0) _ e2));
+      forwarding = eqb-true _ 13 (not-false _ (none-first (not (eqb (countOf image Forwarding) 13)) _ e3));
+      ports = eqb-true _ 5 (not-false _ (none-first (not (eqb (countOf image MacConfiguration) 5)) _ e4));
+      spaces = eqb-true _ 1 (not-false _ (none-first (not (eqb (countOf image ForwardingParameters) 1)) _ e5));
     }
 
 -- a buffer with an image that 31 and 30 do not refuse
@@ -89,6 +79,13 @@ sound buffer h e =
     let e2 = none-rest (not (eqb (markOf (imageIn buffer)) 1)) _ e in
     record {
       marked = eqb-true _ 1 (not-false _ (none-first (not (eqb (markOf (imageIn buffer)) 1)) _ e));
-      within = bounded buffer h (within-limits (imageIn buffer) (none-first (overLimit (imageIn buffer)) _ e2));
+      within = record { whole = h; within = within-limits (imageIn buffer) (none-first (overLimit (imageIn buffer)) _ e2) };
       has = complete (imageIn buffer) (none-rest (overLimit (imageIn buffer)) _ e2);
     }
+
+-- each port's entries of 09 and of 08 are there
+pub port-held : (buffer : List ℕ) (port : ℕ) → Sound buffer → port < 5 → Held MacConfiguration port buffer
+port-held buffer port s h = held buffer MacConfiguration port (s .within) (subst (λ (n : ℕ). port < n) (sym (s .has .ports)) h)
+
+pub domain-held : (buffer : List ℕ) (port : ℕ) → Sound buffer → port < 5 → Held Forwarding port buffer
+domain-held buffer port s h = held buffer Forwarding port (s .within) (subst (λ (n : ℕ). port < n) (sym (s .has .forwarding)) (lt-of-lt-of-le h (lit≤ tt)))

@@ -3,22 +3,20 @@ use mathlib.Core.Path.{_≡_, refl, sym, _∙_, ap, subst}
 use mathlib.Core.List.{List, [], _∷_, _++_}
 use Prim.Native.Nat.{ℕ, zero, suc, _<_, _≤_}
 use native.Mathlib.Omega.{arith}
-use lib.Dec.{lit<}
-use lib.ListN.{length, drop, replicate}
-use Rattle.layout.specs.Layout.{imageWords, imageIn, countOf, Held}
-use Rattle.image.specs.Sound.{Within}
+use lib.ListN.{drop, replicate}
+use Rattle.image.specs.Layout.{imageWords, imageIn, countOf, Held, cleared}
+use Rattle.image.specs.Sound.{Bounded, held}
+use Rattle.image.specs.declared.tables.Table.{Table}
+use Rattle.image.specs.declared.tables.Table.the-variants.{LookupParameters}
+use Rattle.image.specs.Rows.{mostOf}
 use Rattle.stream.specs.Fine.{Fine, cleared-fine, step-fine}
-use Rattle.stream.specs.Machine.{Machine, at, fresh, cleared, step}
+use Rattle.stream.specs.Machine.{Machine, at, fresh, step}
 use Rattle.stream.specs.declared.Load.{Load}
 use Rattle.stream.specs.Leaves.{Leaves}
 use Rattle.stream.proofs.states.Laws.{leaves-at}
 
-pub record Fit (buffer : List ℕ) : Type 0 where
-  pub whole : imageWords ≤ length buffer
-  pub within : Within (imageIn buffer)
-
 -- what every step of a load keeps
-pub fit : (l : Load) (buffer : List ℕ) → Fine (at l buffer) → Fit buffer
+pub fit : (l : Load) (buffer : List ℕ) → Fine (at l buffer) → Bounded buffer
 fit l buffer f = record { whole = f .whole; within = f .within }
 
 -- a load that has not begun, over zeros
@@ -41,23 +39,23 @@ goes-on l r s buffer after b w f e h k =
     (sym (ap (λ (x : Load). at x b) h ∙ ap (λ (x : List ℕ). at r x) k ∙ leaves-at e))
     (step-fine (at l buffer) w f)
 
--- entry i of table k is there
-pub held : (buffer : List ℕ) (k i n : ℕ) → Fit buffer → k < 9 → n ≡ countOf (imageIn buffer) k → i < n → Held k i buffer
-held buffer k i n f h e g = record { whole = f .whole; within = f .within k h; there = subst (λ (m : ℕ). i < m) e g }
+-- an entry below the count that was read is there
+pub held-at : (buffer : List ℕ) (t : Table) (i n : ℕ) → Bounded buffer → n ≡ countOf (imageIn buffer) t → i < n → Held t i buffer
+held-at buffer t i n f e g = held buffer t i f (subst (λ (m : ℕ). i < m) e g)
 
--- the same by the table's number
-pub held-as : (buffer : List ℕ) (j k i : ℕ) → Held k i buffer → k ≡ j → Held j i buffer
-held-as buffer j k i h e = subst (λ (m : ℕ). Held m i buffer) e h
+-- the same by the table's name
+pub held-as : (buffer : List ℕ) (t u : Table) (i : ℕ) → Held t i buffer → t ≡ u → Held u i buffer
+held-as buffer t u i h e = subst (λ (x : Table). Held x i buffer) e h
 
 -- the one entry of 0E is entry 0
-pub held-first : (buffer : List ℕ) (j k i : ℕ) → Held k i buffer → k ≡ j → Held j 0 buffer
-held-first buffer j k i h e =
-    let g : Held j i buffer = held-as buffer j k i h e in
-    let t : i < countOf (imageIn buffer) j = g .there in record { whole = g .whole; within = g .within; there = omega arith }
+pub held-first : (buffer : List ℕ) (t u : Table) (i : ℕ) → Held t i buffer → t ≡ u → Held u 0 buffer
+held-first buffer t u i h e =
+    let g : Held u i buffer = held-as buffer t u i h e in
+    let there : i < countOf (imageIn buffer) u = g .there in record { whole = g .whole; within = g .within; there = omega arith }
 
 -- 0D has one entry at most, which is what its reader asks
-pub learnt : (buffer : List ℕ) (k i : ℕ) → Held k i buffer → k ≡ 5 → countOf (imageIn buffer) 5 ≤ 1
-learnt buffer k i h e = held-as buffer 5 k i h e .within
+pub learnt : (buffer : List ℕ) (t : Table) (i : ℕ) → Held t i buffer → t ≡ LookupParameters → countOf (imageIn buffer) LookupParameters ≤ mostOf LookupParameters
+learnt buffer t i h e = held-as buffer t LookupParameters i h e .within
 
-pub few : (buffer : List ℕ) → Fit buffer → countOf (imageIn buffer) 5 ≤ 1
-few buffer f = f .within 5 (lit< tt)
+pub few : (buffer : List ℕ) → Bounded buffer → countOf (imageIn buffer) LookupParameters ≤ mostOf LookupParameters
+few buffer f = f .within LookupParameters

@@ -2,17 +2,20 @@
 // texts beside those streams give them; tests/vectors/fields.py made it and says how. The loader's steps put each stream into an image,
 // all but its last word, the global checksum: that word runs the rules, two of these streams break one, and a refusal leaves zeros. A stream that is refused
 // before is never printed, nor is one behind it.
-ghost use Prim.Native.Nat.{_<_};
-ghost use Rattle.layout.specs.Layout.{Held};
-ghost use Rattle.image_vectors.specs.Fit.{Fit};
-use image::address;
-use image::forwarding;
-use image::mac;
-use image::parameters;
-use image::policing;
-use image::vlan;
-use layout::IMAGE_WORDS;
-use layout::count;
+ghost use Rattle.image.specs.Layout.{Held};
+ghost use Rattle.image.specs.Sound.{Bounded};
+ghost use Rattle.image.specs.declared.tables.Table.the-variants.{AddressLookup, Policing, VlanLookup, Forwarding, MacConfiguration, ForwardingParameters};
+use fields::address;
+use fields::forwarding;
+use fields::mac;
+use fields::parameters;
+use fields::policing;
+use fields::vlan;
+use image::IMAGE_WORDS;
+use image::count;
+use image::tables;
+use image::tables::TABLES;
+use image::tables::Table;
 use libc::STDIN_FILENO;
 use libc::STDOUT_FILENO;
 use stream::Phase;
@@ -37,7 +40,7 @@ fn begin(high: u8, low: u8, i: usize) {
 }
 
 fn print_address(image: &[u32], i: usize)
-    requires { ⌜ Held 0 i (now image) ⌝ }
+    requires { ⌜ Held AddressLookup i (now image) ⌝ }
 {
     begin(b'0', b'5', i);
     print(address::vlanid(image, i));
@@ -49,7 +52,7 @@ fn print_address(image: &[u32], i: usize)
 }
 
 fn print_policing(image: &[u32], i: usize)
-    requires { ⌜ Held 1 i (now image) ⌝ }
+    requires { ⌜ Held Policing i (now image) ⌝ }
 {
     begin(b'0', b'6', i);
     print(policing::sharindx(image, i));
@@ -60,7 +63,7 @@ fn print_policing(image: &[u32], i: usize)
 }
 
 fn print_vlan(image: &[u32], i: usize)
-    requires { ⌜ Held 2 i (now image) ⌝ }
+    requires { ⌜ Held VlanLookup i (now image) ⌝ }
 {
     begin(b'0', b'7', i);
     print(vlan::vmemb_port(image, i));
@@ -70,7 +73,7 @@ fn print_vlan(image: &[u32], i: usize)
 }
 
 fn print_forwarding(image: &[u32], i: usize)
-    requires { ⌜ Held 3 i (now image) ⌝ }
+    requires { ⌜ Held Forwarding i (now image) ⌝ }
 {
     begin(b'0', b'8', i);
     print(forwarding::bc_domain(image, i));
@@ -84,7 +87,7 @@ fn print_forwarding(image: &[u32], i: usize)
 }
 
 fn print_mac(image: &[u32], i: usize)
-    requires { ⌜ Held 4 i (now image) ⌝ }
+    requires { ⌜ Held MacConfiguration i (now image) ⌝ }
 {
     begin(b'0', b'9', i);
     print(mac::vlanprio(image, i));
@@ -95,7 +98,7 @@ fn print_mac(image: &[u32], i: usize)
 }
 
 fn print_spaces(image: &[u32])
-    requires { ⌜ Held 6 0 (now image) ⌝ }
+    requires { ⌜ Held ForwardingParameters 0 (now image) ⌝ }
 {
     begin(b'0', b'E', 0);
     let mut j = 0;
@@ -105,51 +108,52 @@ fn print_spaces(image: &[u32])
     }
 }
 
-// Entry i of table k; the last two have no field in use.
-fn print_entry(image: &[u32], k: usize, i: usize)
-    requires { ⌜ (k < 9) × (Held k i (now image)) ⌝ }
+// Entry i of a table; the last two have no field in use.
+fn print_entry(image: &[u32], table: Table, i: usize)
+    requires { ⌜ Held table i (now image) ⌝ }
 {
-    match k {
-        0 => print_address(image, i),
-        1 => print_policing(image, i),
-        2 => print_vlan(image, i),
-        3 => print_forwarding(image, i),
-        4 => print_mac(image, i),
-        5 => {
+    match table {
+        Table::AddressLookup => print_address(image, i),
+        Table::Policing => print_policing(image, i),
+        Table::VlanLookup => print_vlan(image, i),
+        Table::Forwarding => print_forwarding(image, i),
+        Table::MacConfiguration => print_mac(image, i),
+        Table::LookupParameters => {
             begin(b'0', b'D', i);
             print(parameters::shared_learn(image));
         }
-        6 => print_spaces(image),
-        7 => begin(b'1', b'1', i),
-        _ => begin(b'4', b'E', i),
+        Table::ForwardingParameters => print_spaces(image),
+        Table::GeneralParameters => begin(b'1', b'1', i),
+        Table::XmiiModeParameters => begin(b'4', b'E', i),
     }
 }
 
 // The reader of 0D is asked where the table is absent too: there SHARED_LEARN is clear.
-fn print_absent(image: &[u32])
-    requires { ⌜ Fit (now image) ⌝ }
+fn print_absent(image: &[u32], table: Table)
+    requires { ⌜ Bounded (now image) ⌝ }
 {
-    io::write_all(STDOUT_FILENO, b"0D absent");
-    print(parameters::shared_learn(image));
-    put(b'\n');
+    if let Table::LookupParameters = table {
+        io::write_all(STDOUT_FILENO, b"0D absent");
+        print(parameters::shared_learn(image));
+        put(b'\n');
+    }
 }
 
 // Table by table and entry by entry in one loop: two would take longer to prove.
 fn print_image(image: &[u32])
-    requires { ⌜ Fit (now image) ⌝ }
+    requires { ⌜ Bounded (now image) ⌝ }
 {
     let mut k = 0;
     let mut i = 0;
-    while k < 9 {
-        if i < count(image, k) {
-            print_entry(image, k, i);
+    while k < TABLES {
+        let table = tables::table_at(k);
+        if i < count(image, table) {
+            print_entry(image, table, i);
             put(b'\n');
             i += 1;
         } else {
-            if k == 5 {
-                if i == 0 {
-                    print_absent(image);
-                }
+            if i == 0 {
+                print_absent(image, table);
             }
             k += 1;
             i = 0;
@@ -160,7 +164,7 @@ fn print_image(image: &[u32])
 // What is printed before a word is sent: a stream's first word, and where its last is next, the image. The end block has length 0, and its third word is the
 // last. The answer is whether this word is.
 fn print_before(image: &[u32], phase: Phase, second: u32, word: u32) -> bool
-    requires { ⌜ Fit (now image) ⌝ }
+    requires { ⌜ Bounded (now image) ⌝ }
 {
     match phase {
         Phase::Device => {

@@ -6,7 +6,7 @@ use mathlib.Core.List.{List}
 use Prim.Native.Nat.{ℕ}
 use lib.Dec.{eqb}
 use borrow.Author.Tests.{eqb-true, eqb-false}
-use Rattle.layout.specs.Layout.{imageIn}
+use Rattle.image.specs.Layout.{imageIn}
 use Rattle.spend.specs.declared.Spent.{Spent}
 use Rattle.frame.specs.Bytes.{octetsOf}
 use Rattle.plan.specs.declared.Course.{Course}

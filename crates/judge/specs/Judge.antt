@@ -4,7 +4,7 @@ use mathlib.Core.Bool.{cond}
 use mathlib.Core.List.{List, [], _∷_}
 use Prim.Native.Nat.{ℕ}
 use lib.Dec.{eqb}
-use Rattle.layout.specs.Layout.{imageIn}
+use Rattle.image.specs.Layout.{imageIn}
 use Rattle.frame.specs.Bytes.{octetsOf}
 use Rattle.plan.specs.declared.enter.Entered.{Entered}
 use Rattle.plan.specs.declared.enter.Entered.the-variants as entered

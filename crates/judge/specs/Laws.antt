@@ -9,8 +9,9 @@ use lib.Dec.{ltb, leb, eqb}
 use lib.ListN.{length}
 use borrow.Author.Tests.{ltb-false, leb-false, eqb-true, eqb-false}
 use Rattle.laws.specs.Chain.{none-first, none-rest, zero-first, zero-rest, at-zero, not-zero}
-use Rattle.layout.specs.Layout.{imageIn}
+use Rattle.image.specs.Layout.{imageIn}
 use Rattle.image.specs.Sound.{Sound}
+use Rattle.image.specs.declared.tables.Table.the-variants.{Policing}
 use Rattle.ledger.specs.Row.{frames, last, many, cell}
 use Rattle.ledger.specs.Range.{latest, standing}
 use Rattle.ledger.specs.Laws.{InRange, Stands, stands}
@@ -83,7 +84,7 @@ admitted-as buffer g port time frame n e z = admitted buffer g port time frame (
 
 pub runs : (buffer : List ℕ) (w : Course) → Sound buffer → Sane (imageIn buffer) w → Runs w
 runs buffer w s f =
-    record { meter = lt-of-lt-of-le (f .meter) (s .within .policers); smax = f .smax; rate = f .rate; partition = f .partition }
+    record { meter = lt-of-lt-of-le (f .meter) (s .within .within Policing); smax = f .smax; rate = f .rate; partition = f .partition }
 
 pub plan-follows : (image : List ℕ) (port : ℕ) (frame : List ℕ) → Follows image (planFor image port frame)
 unfolding planFor

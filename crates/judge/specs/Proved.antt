@@ -5,8 +5,8 @@ use mathlib.Core.List.{List}
 use Prim.Native.Nat.{ℕ}
 use lib.Dec.{eqb}
 use borrow.Author.Tests.{ne-eqb}
-use Rattle.layout.specs.Layout.{imageIn}
-use Rattle.layout.specs.Loaded.{tooShort}
+use Rattle.image.specs.Layout.{imageIn}
+use Rattle.image.specs.Loaded.{tooShort}
 use Rattle.ledger.specs.Range.{standing}
 use Rattle.ledger.specs.Proved.{same-standing}
 use Rattle.frame.specs.Bytes.{octetsOf}

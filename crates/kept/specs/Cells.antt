@@ -1,22 +1,21 @@
 -- What a spending and a count leave in their cells.
-use mathlib.Core.Path.{_≡_, refl, sym, _∙_, ap, subst}
+use mathlib.Core.Path.{_≡_, sym, subst}
 use mathlib.Core.Bool.{Bool, true, false, cond}
-use Prim.Native.Nat.{ℕ, _+_, _-_, _*_, _<_, _≤_}
-use native.Mathlib.Nat.{le-refl, le-trans, sub-le, min-le-left}
+use Prim.Native.Nat.{ℕ, _+_, _-_, _*_, _≤_}
+use native.Mathlib.Nat.{le-refl, le-trans, min-le-left}
 use native.Mathlib.Omega.{arith}
 use lib.Dec.{ltb, eqb}
 use Rattle.ledger.specs.Laws.{Counted}
 use Rattle.spend.specs.declared.Meter.{Meter}
-use Rattle.spend.specs.declared.Spent.{Spent}
 use Rattle.spend.specs.declared.Counts.{Counts}
-use Rattle.spend.specs.Meter.{refilled, cost}
+use Rattle.spend.specs.Meter.{cost}
 use Rattle.spend.specs.Spend.{spent, unitsOf, paidOf, creditAt, spentOf, countedOf}
 use Rattle.spend.specs.Proved.{stays-spent}
 
 less : (a b : ℕ) → a - b ≤ a
 less a b = omega arith
 
-pub paid-units : (credit now units octets ports : ℕ) → paidOf credit now units octets ports .units ≤ units
+paid-units : (credit now units octets ports : ℕ) → paidOf credit now units octets ports .units ≤ units
 unfolding paidOf
 paid-units credit now units octets ports = ten (eqb ports 0)
   where

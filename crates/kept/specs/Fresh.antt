@@ -5,7 +5,7 @@ use Prim.Native.Nat.{ℕ, _+_, _<_, _≤_}
 use native.Mathlib.Omega.{arith}
 use lib.ListN.{length, getD}
 use Rattle.laws.specs.Chain.{pass-lt}
-use Rattle.image.specs.Fields.{partSpc}
+use Rattle.fields.specs.Fields.{partSpc}
 use Rattle.ledger.specs.Row.{units, credit, since, start, many, cellCount, cell}
 use Rattle.ledger.specs.Range.{fullOf}
 use Rattle.row.specs.Fresh.{length-table, table-at, freshCell, freshOf, fresh-partition, fresh-meter}

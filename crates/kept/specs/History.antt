@@ -3,7 +3,7 @@ use mathlib.Core.Path.{_≡_}
 use mathlib.Core.Bool.{false}
 use mathlib.Core.List.{List, [], _∷_}
 use Prim.Native.Nat.{ℕ}
-use Rattle.layout.specs.Layout.{imageIn}
+use Rattle.image.specs.Layout.{imageIn}
 use Rattle.ledger.specs.Range.{outOfRange}
 use Rattle.row.specs.Fresh.{freshOf}
 use Rattle.row.specs.Release.{released}
@@ -29,7 +29,7 @@ pub step-kept : (buffer g : List ℕ) (e : Event) → Kept (imageIn buffer) g �
 step-kept buffer g (frame port time bytes) k = judge-kept buffer g port time bytes k
 step-kept buffer g (release partition) k = release-kept buffer g partition k
 
-pub history-kept : (buffer g : List ℕ) (es : List Event) → Kept (imageIn buffer) g → Kept (imageIn buffer) (after buffer g es)
+history-kept : (buffer g : List ℕ) (es : List Event) → Kept (imageIn buffer) g → Kept (imageIn buffer) (after buffer g es)
 history-kept buffer g [] k = k
 history-kept buffer g (e ∷ es) k = history-kept buffer (step buffer g e) es (step-kept buffer g e k)
 

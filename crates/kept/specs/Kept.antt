@@ -10,8 +10,9 @@ use lib.Dec.{ltb, eqb, lit≤, lit<}
 use lib.ListN.{length, getD, set, length-set}
 use borrow.Author.Tests.{le-ltb, lt-ltb, eqb-true}
 use Rattle.laws.specs.Scan.{none-all}
-use Rattle.layout.specs.Layout.{imageIn, countOf}
-use Rattle.image.specs.Fields.{partSpc, smax}
+use Rattle.image.specs.Layout.{imageIn, countOf}
+use Rattle.image.specs.declared.tables.Table.the-variants.{Policing}
+use Rattle.fields.specs.Fields.{partSpc, smax}
 use Rattle.ledger.specs.Row.{units, credit, since, frames, drops, octets, dropped, last, start, many, cellCount, cell, put}
 use Rattle.ledger.specs.Range.{latest, unitsOver, fullOf, creditOver, octetsOff, countsOff, tilesOff, timesOver, outOfRange}
 use Rattle.ledger.specs.Laws.{cells, other-place, Counted, InRange}
@@ -175,8 +176,8 @@ noted-kept image g port time l drop r hp early lo hi =
     }
 
 -- a loaded entry's meter is full at SMAX × 8,000,000
-full-is : (image : List ℕ) (m : ℕ) → m < countOf image 1 → smax image m * 8000000 ≡ fullOf image m
-full-is image m h = ap (λ (t : Bool). cond t (smax image m * 8000000) 0) (sym (lt-ltb m (countOf image 1) h))
+full-is : (image : List ℕ) (m : ℕ) → m < countOf image Policing → smax image m * 8000000 ≡ fullOf image m
+full-is image m h = ap (λ (t : Bool). cond t (smax image m * 8000000) 0) (sym (lt-ltb m (countOf image Policing) h))
 
 -- a frame keeps the ledger in range, refused or not
 pub judge-kept : (buffer g : List ℕ) (port time : ℕ) (frame : List ℕ) → Kept (imageIn buffer) g → Kept (imageIn buffer) (judgeOf buffer g port time frame .row)
@@ -193,7 +194,7 @@ judge-kept buffer g port time frame k =
 
     spent : Admitted buffer g port time frame → (w : Course) → Sane (imageIn buffer) w → Ready (imageIn buffer) (rowAfter g w time l) time
     spent a w f =
-        stored-ready (imageIn buffer) g time w (settledBy w (spentAt g w time l) .held) (ready (imageIn buffer) g time k (a .later)) (lt-of-lt-of-le (f .meter) (a .image .within .policers)) (f .partition)
+        stored-ready (imageIn buffer) g time w (settledBy w (spentAt g w time l) .held) (ready (imageIn buffer) g time k (a .later)) (lt-of-lt-of-le (f .meter) (a .image .within .within Policing)) (f .partition)
         (spent-units (meterOf w (heldAt g w)) time (cell g units (w .partition)) l (w .sending .ports))
         (subst (λ (x : ℕ). spentAt g w time l .credit ≤ x) (ap (λ (x : ℕ). x * 8000000) (f .own) ∙ full-is (imageIn buffer) (w .meter) (f .meter))
         (spent-credit (meterOf w (heldAt g w)) time (cell g units (w .partition)) l (w .sending .ports)))

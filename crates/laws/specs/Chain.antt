@@ -5,7 +5,7 @@ use mathlib.Core.Bool.{Bool, true, false, cond, not, true≢false}
 use Prim.Native.Nat.{ℕ, suc, _<_, _≤_}
 use native.Mathlib.Nat.{suc-ne-zero}
 use lib.Dec.{ltb, leb, eqb}
-use borrow.Author.Tests.{lt-ltb, le-ltb, le-leb, lt-leb, eq-eqb, ne-eqb}
+use borrow.Author.Tests.{ltb-true, ltb-false, lt-ltb, le-ltb, le-leb, lt-leb, eq-eqb, ne-eqb}
 
 module _ {A : Type 0} where
   -- the test holds: the answer is its own
@@ -51,6 +51,24 @@ module _ {A : Type 0} where
 
   pub pass-ne : (a b : ℕ) (v x y : A) → a ≡ b → v ≡ y → v ≡ cond (not (eqb a b)) x y
   pass-ne a b v x y h p = no-cond (not (eqb a b)) v x y (ap not (eq-eqb a b h)) p
+
+-- two tests that hold together and fail together
+pub together : (a b c d : ℕ) → (a < b → c < d) → (b ≤ a → d ≤ c) → ltb a b ≡ ltb c d
+together a b c d f g = go (ltb a b) refl
+  where
+    go : (t : Bool) → ltb a b ≡ t → t ≡ ltb c d
+    go true e = sym (lt-ltb c d (f (ltb-true a b e)))
+    go false e = sym (le-ltb c d (g (ltb-false a b e)))
+
+-- that two tests agree, as a test
+abbrev pub agree : Bool → Bool → Bool
+agree true b = b
+agree false b = not b
+
+pub agreed : (a b : Bool) → agree a b ≡ true → a ≡ b
+agreed true b e = sym e
+agreed false true e = e
+agreed false false e = refl
 
 -- a chain of refusals that refuses nothing: its first test failed, and so did the rest
 pub none-first : (b y : Bool) → cond b true y ≡ false → b ≡ false

@@ -4,15 +4,15 @@ use mathlib.Core.Path.{_≡_, refl, sym, _∙_, ap, subst}
 use mathlib.Core.Logic.{_⊎_, inl, inr, ⊎-elim}
 use mathlib.Core.Bool.{Bool, true, false, cond, not, _&&_, _||_}
 use Prim.Native.Nat.{ℕ, zero, suc, _+_, _<_, _≤_, zero-le}
-use native.Mathlib.Nat.{le-refl, le-antisymm, le-of-lt, le-step, le-suc, le-of-suc-le-suc, not-suc-le-zero, eq-or-lt-of-le, lt-irrefl, le-trans, lt-of-lt-of-le, lt-of-le-of-lt, zero-add, add-zero, suc-ne-zero, add-le-add}
+use native.Mathlib.Nat.{le-refl, le-antisymm, le-of-lt, le-step, le-of-suc-le-suc, not-suc-le-zero, eq-or-lt-of-le, add-zero, suc-ne-zero, add-le-add}
 use native.Mathlib.Numerals.{add-one}
 use native.Mathlib.Omega.{arith}
 use mathlib.Core.List.{List}
-use lib.Dec.{ltb, leb, eqb}
+use lib.Dec.{ltb, eqb}
 use lib.ListN.{length, getD, set, replicate, length-replicate, getD-replicate, length-set}
 use lib.Seq.{getD-set-same, getD-set-other}
 use native.Mathlib.Decide.{ℕ-discrete}
-use borrow.Author.Tests.{lt-ltb, le-ltb, ltb-true, ltb-false, eq-eqb, ne-eqb}
+use borrow.Author.Tests.{lt-ltb, le-ltb, ltb-true, eq-eqb, ne-eqb}
 
 -- every index below n passes p
 unfoldable pub every : ℕ → (ℕ → Bool) → Bool
@@ -46,16 +46,8 @@ unfoldable pub twice : ℕ → (ℕ → ℕ) → Bool
 twice n f = some-below n (λ j. some-below j (λ i. eqb (f i) (f j)))
 
 -- ---- one turn more, at the code's n + 1
-pub every-more : (n : ℕ) (p : ℕ → Bool) → every n p ≡ true → p n ≡ true → every (n + 1) p ≡ true
-unfolding every
-every-more n p e h = rw add-one (rw e h)
-
-pub every-none : (p : ℕ → Bool) → every 0 p ≡ true
-unfolding every
-every-none p = refl
-
 -- an index that fails, and no scan past it passes
-pub every-fails : (n i : ℕ) (p : ℕ → Bool) → i < n → p i ≡ false → every n p ≡ false
+every-fails : (n i : ℕ) (p : ℕ → Bool) → i < n → p i ≡ false → every n p ≡ false
 unfolding every
 every-fails zero i p l h = absurd (not-suc-le-zero l)
 every-fails (suc n) i p l h =
@@ -169,11 +161,11 @@ flag false = 0
 abbrev pub Marks : ℕ → (ℕ → ℕ) → List ℕ → Type 0
 Marks n f marks = (v : ℕ) → v < length marks → getD marks v 0 ≡ flag (some-below n (λ i. eqb (f i) v))
 
-pub marks-none : (size : ℕ) (f : ℕ → ℕ) → Marks 0 f (replicate size 0)
+marks-none : (size : ℕ) (f : ℕ → ℕ) → Marks 0 f (replicate size 0)
 unfolding some-below
 marks-none size f v h = getD-replicate size v 0 0 (subst (λ (k : ℕ). v < k) (length-replicate size 0) h)
 
-pub marks-more : (n : ℕ) (f : ℕ → ℕ) (marks : List ℕ) → Marks n f marks → f n < length marks → Marks (n + 1) f (set marks (f n) 1)
+marks-more : (n : ℕ) (f : ℕ → ℕ) (marks : List ℕ) → Marks n f marks → f n < length marks → Marks (n + 1) f (set marks (f n) 1)
 marks-more n f marks h l v lv = ⊎-elim (λ e. here e) (λ ne. other ne) (same-or (f n) v)
   where
     same-or : (a b : ℕ) → (a ≡ b) ⊎ (a ≡ b → ⊥)
@@ -196,11 +188,11 @@ marks-more n f marks h l v lv = ⊎-elim (λ e. here e) (λ ne. other ne) (same-
         ∙ sym (ap flag (some-more n (λ i. eqb (f i) v) ∙ or-no (some-below n (λ i. eqb (f i) v)) (eqb (f n) v) (ne-eqb (f n) v ne)))
 
 -- a sum of the marks that were found set: 0 as long as no value came twice
-pub twice-none : (f : ℕ → ℕ) → eqb 0 0 ≡ not (twice 0 f)
+twice-none : (f : ℕ → ℕ) → eqb 0 0 ≡ not (twice 0 f)
 unfolding twice some-below
 twice-none f = refl
 
-pub twice-more : (n sum mark : ℕ) (f : ℕ → ℕ) → eqb sum 0 ≡ not (twice n f) → mark ≡ flag (some-below n (λ i. eqb (f i) (f n)))
+twice-more : (n sum mark : ℕ) (f : ℕ → ℕ) → eqb sum 0 ≡ not (twice n f) → mark ≡ flag (some-below n (λ i. eqb (f i) (f n)))
     → eqb (sum + mark) 0 ≡ not (twice (n + 1) f)
 unfolding twice
 twice-more n sum mark f e h =
@@ -286,3 +278,22 @@ first-within (suc n) p = by (ltb (first n p) n) refl
     by : (t : Bool) → t ≡ ltb (first n p) n → cond t (first n p) (cond (p n) n (suc n)) ≤ suc n
     by true e = le-step (le-of-lt (ltb-true (first n p) n (sym e)))
     by false e = last (p n)
+
+-- none passes, and none is found
+pub first-of-none : (n : ℕ) (p : ℕ → Bool) → ((i : ℕ) → i < n → p i ≡ false) → first n p ≡ n
+first-of-none zero p h = first-none p
+first-of-none (suc n) p h =
+    subst (λ (k : ℕ). first k p ≡ k) (add-one n) (first-more n p (first-of-none n p (λ i l. h i (le-step l))) (h n (le-refl (suc n))))
+
+-- an index of a part that ends inside lies inside
+pub part-inside : (i k m n : ℕ) → i + m ≤ n → k < m → i + k < n
+part-inside i k m n h l = omega arith
+
+-- k is none of the first n numbers, as a match's arm for all others has it
+abbrev pub Misses : ℕ → ℕ → Type 0
+Misses zero k = Unit {0}
+Misses (suc n) k = Misses n k × (k ≡ n → ⊥)
+
+pub misses-above : (n k : ℕ) → Misses n k → n ≤ k
+misses-above zero k m = zero-le
+misses-above (suc n) k m = ⊎-elim (λ e. absurd (m .1 (sym e))) (λ l. l) (eq-or-lt-of-le (misses-above n k (m .0)))

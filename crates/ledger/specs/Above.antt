@@ -10,7 +10,8 @@ use lib.Dec.{ltb, eqb}
 use borrow.Author.Tests.{lt-ltb, le-ltb}
 use Rattle.laws.specs.Chain.{pass-lt, of-le}
 use Rattle.laws.specs.Scan.{some-below, some-more, flag}
-use Rattle.layout.specs.Layout.{countOf}
+use Rattle.image.specs.Layout.{countOf}
+use Rattle.image.specs.declared.tables.Table.the-variants.{Policing}
 use Rattle.ledger.specs.Row.{credit, since, last, many, cell}
 use Rattle.ledger.specs.Range.{latest, unitsOver, fullOf, creditOver, tilesOff, timesOver, outOfRange}
 
@@ -62,7 +63,7 @@ tells-end p n k all t a b = ap (λ (x : ℕ). eqb x 1) (t .top) ∙ back (some-b
     back false = refl
 
 -- two scans in one pass
-pub some-either : (n : ℕ) (p q : ℕ → Bool) → some-below n (λ k. p k || q k) ≡ (some-below n p || some-below n q)
+some-either : (n : ℕ) (p q : ℕ → Bool) → some-below n (λ k. p k || q k) ≡ (some-below n p || some-below n q)
 unfolding some-below
 some-either zero p q = refl
 some-either (suc n) p q = ap (λ (t : Bool). t || (p n || q n)) (some-either n p q) ∙ by (some-below n p) (some-below n q) (p n) (q n)
@@ -88,8 +89,8 @@ unfolding meterOff
 meter-more image g k all one most t u e = tells-more (meterOff image g) k all one t (subst (λ (m : ℕ). Tells (meterOver g k m) one) e u)
 
 -- a meter with no entry loaded holds nothing when it is full
-pub not-loaded : (image : List ℕ) (k n : ℕ) → n ≡ countOf image 1 → n ≤ k → 0 ≡ fullOf image k
-not-loaded image k n e h = pass-lt k (countOf image 1) 0 _ 0 (of-le k (countOf image 1) n e h) refl
+pub not-loaded : (image : List ℕ) (k n : ℕ) → n ≡ countOf image Policing → n ≤ k → 0 ≡ fullOf image k
+not-loaded image k n e h = pass-lt k (countOf image Policing) 0 _ 0 (of-le k (countOf image Policing) n e h) refl
 
 -- credit and times in one pass
 pub meters-end : (image g : List ℕ) (k all : ℕ) → Tells (some-below k (meterOff image g)) all → many credit ≤ k → k ≤ many credit

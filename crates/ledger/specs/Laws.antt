@@ -12,9 +12,9 @@ use lib.Seq.{getD-set-same, getD-set-other}
 use borrow.Author.Tests.{ltb-false, leb-true, eqb-true, eqb-false}
 use Rattle.laws.specs.Chain.{none-first, none-rest, zero-first, zero-rest}
 use Rattle.laws.specs.Scan.{none-at}
-use Rattle.layout.specs.Layout.{imageWords, imageIn}
-use Rattle.image.specs.Fields.{partSpc}
-use Rattle.layout.specs.Loaded.{tooShort, notLoaded}
+use Rattle.image.specs.Layout.{imageWords, imageIn}
+use Rattle.fields.specs.Fields.{partSpc}
+use Rattle.image.specs.Loaded.{tooShort, notLoaded}
 use Rattle.image.specs.Sound.{Sound, sound}
 use Rattle.ledger.specs.Row.{parts, units, credit, since, frames, drops, octets, dropped, last, many, cellCount, cell}
 use Rattle.ledger.specs.Range.{latest, unitsOver, fullOf, creditOver, octetsOff, countsOff, tilesOff, timesOver, outOfRange, unloaded, standing}
@@ -51,10 +51,6 @@ other-place g a i j v ne = getD-set-other g (a + i) (a + j) v 0 (λ q. ne (omega
 pub ruleset cells = (other-part, read-back, length-set)
 
 -- ---- tests
-
--- a test of a flag that a call handed over
-pub long-enough : (buffer : List ℕ) (r : Bool) → r ≡ tooShort buffer → r ≡ false → imageWords ≤ length buffer
-long-enough buffer r e h = ltb-false (length buffer) imageWords (sym e ∙ h)
 
 -- a tile's counts that 39 does not refuse
 pub record Counted (frames drops octets dropped : ℕ) : Type 0 where

@@ -2,8 +2,8 @@
 use mathlib.Core.Path.{_≡_, refl, _∙_, ap}
 use mathlib.Core.Bool.{Bool, true, false, cond}
 use lib.Dec.{eqb}
-use Rattle.layout.specs.Layout.{imageIn}
-use Rattle.layout.specs.Loaded.{tooShort, notLoaded}
+use Rattle.image.specs.Layout.{imageIn}
+use Rattle.image.specs.Loaded.{tooShort, notLoaded}
 use mathlib.Core.List.{List}
 use Prim.Native.Nat.{ℕ}
 use Rattle.ledger.specs.Range.{octetsOff, countsOff, outOfRange, unloaded, standing}
@@ -35,7 +35,7 @@ dropped-over = refl
 
 -- ---- a buffer's rest has no part in it: two buffers that are both long enough, or both too short, with one image, get one outcome
 module _ (a b : List ℕ) (long : tooShort a ≡ tooShort b) (image : imageIn a ≡ imageIn b) where
-  pub same-unloaded : unloaded a ≡ unloaded b
+  same-unloaded : unloaded a ≡ unloaded b
   unfolding unloaded
   same-unloaded =
       ap (λ (t : Bool). cond t 31 (cond (notLoaded (imageIn a)) 30 0)) long ∙ ap (λ (i : List ℕ). cond (tooShort b) 31 (cond (notLoaded i) 30 0)) image

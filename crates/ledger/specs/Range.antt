@@ -5,9 +5,10 @@ use mathlib.Core.List.{List}
 use Prim.Native.Nat.{ℕ, _*_}
 use lib.Dec.{ltb, eqb}
 use Rattle.laws.specs.Scan.{some-below}
-use Rattle.layout.specs.Layout.{imageIn, countOf}
-use Rattle.image.specs.Fields.{partSpc, smax}
-use Rattle.layout.specs.Loaded.{tooShort, notLoaded}
+use Rattle.image.specs.Layout.{imageIn, countOf}
+use Rattle.fields.specs.Fields.{partSpc, smax}
+use Rattle.image.specs.Loaded.{tooShort, notLoaded}
+use Rattle.image.specs.declared.tables.Table.the-variants.{Policing}
 use Rattle.ledger.specs.Row.{units, credit, since, frames, drops, octets, dropped, last, many, cell}
 
 -- the latest time, 2^48 - 1 µs
@@ -20,7 +21,7 @@ unitsOver image g = some-below (many units) (λ j. ltb (partSpc image j) (cell g
 
 -- what a meter holds when it is full, in millionths of a bit: SMAX × 8,000,000, "0 for an entry not loaded"
 abbrev pub fullOf : List ℕ → ℕ → ℕ
-fullOf image k = cond (ltb k (countOf image 1)) (smax image k * 8000000) 0
+fullOf image k = cond (ltb k (countOf image Policing)) (smax image k * 8000000) 0
 
 -- "credit above SMAX × 8,000,000 or above 0 for an entry not loaded"
 abbrev pub creditOver : List ℕ → List ℕ → Bool

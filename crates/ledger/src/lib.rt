@@ -3,9 +3,9 @@ pub mod range;
 
 pub const PARTITIONS: usize = 8;
 
-pub const METERS: usize = 45;
+const METERS: usize = 45;
 
-pub const PORTS: usize = 5;
+const PORTS: usize = 5;
 
 // Units left of each partition.
 pub const UNITS: usize = 0;

@@ -11,11 +11,12 @@ use crate::PARTITIONS;
 use crate::PORTS;
 use crate::SINCE;
 use crate::UNITS;
+use image::tables::Table;
 ghost use mathlib.Core.Path.{_≡_};
 ghost use mathlib.Core.Bool.{_||_};
 ghost use Prim.Native.Nat.{_<_, _≤_, _^_};
 ghost use lib.Dec.{ltb};
-ghost use Rattle.layout.specs.Layout.{imageIn};
+ghost use Rattle.image.specs.Layout.{imageIn};
 ghost use Rattle.image.specs.Sound.{Sound};
 ghost use Rattle.ledger.specs.Row.{credit, last, many, cell};
 ghost use Rattle.ledger.specs.Above.{Tells, meterOver};
@@ -43,7 +44,7 @@ fn units_over(image: &[u32], row: &[u64; CELLS]) -> bool
     let mut all: u64 = 0;
     let mut j: usize = 0;
     while j < PARTITIONS {
-        all = all | above(image::parameters::part_spc(image, j), row[UNITS + j]);
+        all = all | above(fields::parameters::part_spc(image, j), row[UNITS + j]);
         j += 1;
     }
     all >> 63 == 1
@@ -54,8 +55,8 @@ pub fn full(image: &[u32], k: usize) -> u64
     requires { ⌜ Sound (now image) ⌝ }
     ensures { λ r. ⌜ (r ≡ fullOf (imageIn (now (image .entry))) k) × (r < 524288000001) ⌝ }
 {
-    if k < layout::count(image, 1) {
-        return image::policing::smax(image, k) * 8000000;
+    if k < image::count(image, Table::Policing) {
+        return fields::policing::smax(image, k) * 8000000;
     }
     0
 }
@@ -73,7 +74,7 @@ fn meters_over(image: &[u32], row: &[u64; CELLS]) -> bool
     requires { ⌜ Sound (now image) × (cell (now row) last 0 ≤ latest) ⌝ }
     ensures { λ r. ⌜ r ≡ (creditOver (imageIn (now (image .entry))) (now (row .entry)) || timesOver (now (row .entry))) ⌝ }
 {
-    let entries = layout::count(image, 1);
+    let entries = image::count(image, Table::Policing);
     let mut all: u64 = 0;
     let mut k: usize = 0;
     while k < entries {
@@ -153,10 +154,10 @@ pub fn out_of_range(image: &[u32], row: &[u64; CELLS]) -> bool
 pub fn unloaded(image: &[u32]) -> u32
     ensures { λ r. ⌜ r ≡ unloaded (now (image .entry)) ⌝ }
 {
-    if layout::too_short(image) {
+    if image::too_short(image) {
         return 31;
     }
-    if layout::not_loaded(image) {
+    if image::not_loaded(image) {
         return 30;
     }
     0

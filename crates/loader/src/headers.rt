@@ -1,26 +1,22 @@
 // Word 0, a block's header and the stream's end: what numbers 1 to 6 and 8 are told for, the mark and the rules. The rules are run from here alone.
+use image::tables;
+use image::tables::Block;
+use image::tables::Table;
+use stream::Header;
 use stream::Load;
 use stream::states;
-use tables::Block;
-use tables::Table;
 ghost use mathlib.Core.Path.{_≡_};
 ghost use mathlib.Core.List.{[], _∷_};
 ghost use Prim.Native.Nat.{_<_, _≤_};
 ghost use lib.ListN.{length};
 ghost use Rattle.crc.specs.Crc.{checksum};
-ghost use Rattle.layout.specs.Layout.{imageWords, imageIn};
+ghost use Rattle.image.specs.Layout.{imageWords, imageIn};
 ghost use Rattle.image.specs.Sound.{Within};
-ghost use Rattle.tables.specs.Tables.{kindOf, indexOf};
-ghost use Rattle.stream.specs.Header.{idOf};
+ghost use Rattle.image.specs.Blocks.{blockOf};
+ghost use Rattle.image.specs.declared.tables.Block.the-variants.{Carried};
+ghost use Rattle.stream.specs.Header.{idOf, headerOf};
 ghost use Rattle.stream.specs.Machine.{hadIn, finish, endedBy, begunBy, summed, startedBy};
 ghost use Rattle.stream.specs.Leaves.{Leaves};
-ghost use Rattle.loader.specs.Header.{headerOf};
-
-// What a block's header comes to: the number 3 to 6 that it is refused with, or its table.
-pub enum Header {
-    Wrong(u32),
-    Right(Table),
-}
 
 // Word 0.
 pub fn device(image: &mut [u32], w: u32) -> Load
@@ -36,15 +32,15 @@ pub fn device(image: &mut [u32], w: u32) -> Load
 // 5 and 6, for a table that is carried.
 fn fits(image: &[u32], table: Table, n: usize) -> Header
     requires { ⌜ (imageWords ≤ length (now image)) × Within (imageIn (now image)) × (n < 16777216) ⌝ }
-    ensures { λ r. ⌜ r ≡ headerOf (indexOf table) n (hadIn (now (image .entry)) (indexOf table)) ⌝ }
+    ensures { λ r. ⌜ r ≡ headerOf (Carried table) n (hadIn (now (image .entry))) ⌝ }
 {
-    let shape = tables::shape_of(table);
-    let size = shape.size;
+    let row = tables::row_of(table);
+    let size = row.size;
     if n % size != 0 {
         return Header::Wrong(5);
     }
-    let had = layout::count(image, tables::index_of(table));
-    if shape.most < had + n / size {
+    let had = image::count(image, table);
+    if row.most < had + n / size {
         return Header::Wrong(6);
     }
     Header::Right(table)
@@ -53,7 +49,7 @@ fn fits(image: &[u32], table: Table, n: usize) -> Header
 // 3 to 6 for a block of n data words, or its table.
 fn header_of(image: &[u32], first: u32, n: usize) -> Header
     requires { ⌜ (imageWords ≤ length (now image)) × Within (imageIn (now image)) × (n < 16777216) ⌝ }
-    ensures { λ r. ⌜ r ≡ headerOf (kindOf (idOf first)) n (hadIn (now (image .entry)) (kindOf (idOf first))) ⌝ }
+    ensures { λ r. ⌜ r ≡ headerOf (blockOf (idOf first)) n (hadIn (now (image .entry))) ⌝ }
 {
     let block = tables::block_of(first / 16777216);
     match block {
@@ -75,7 +71,7 @@ fn finish(image: &mut [u32]) -> Load
     requires { ⌜ (imageWords ≤ length (now image)) × Within (imageIn (now image)) ⌝ }
     ensures { λ r. ⌜ Leaves (finish (now (image .entry))) r (now (image .exit)) ⌝ }
 {
-    image[11439] = 1;
+    image::set_mark(image);
     let n = rules::first_broken_rule(image);
     if n != 0 {
         return states::refuse(image, n);

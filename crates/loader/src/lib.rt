@@ -41,7 +41,7 @@ fn run(image: &mut [u32], load: Load, words: &[u32]) -> Load
     state
 }
 
-// Words for a load: its answer and its state afterwards. The buffer's first 11,456 words are the image.
+// Words for a load: its answer and its state afterwards. The buffer's first words are the image.
 pub fn write(image: &mut [u32], load: Load, words: &[u32]) -> Wrote
     ensures { λ r. ⌜ Writes load (now (image .entry)) (now (words .entry)) r (now (image .exit)) ⌝ }
 {

@@ -2,6 +2,7 @@
 // program alone: tests/cases/src/bin/loader_vectors.rs made them and says how.
 ghost use Prim.Native.Nat.{_<_, _≤_};
 use crc_both::Both;
+use image::IMAGE_WORDS;
 use libc::STDIN_FILENO;
 use libc::STDOUT_FILENO;
 use stream::Answer;
@@ -9,6 +10,9 @@ use stream::Load;
 use stream::bytes::word_at;
 use stream::states;
 use stream::states::Wrote;
+
+// The image and four words behind it, which no load touches.
+const BUFFER: usize = IMAGE_WORDS + 4;
 
 // What the buffer holds before a load, in each word.
 const FOUND: u32 = 0xA5A5_A5A5;
@@ -36,13 +40,13 @@ fn report(way: &[u8], answer: Answer, buffer: &[u32]) {
 }
 
 fn by_bytes(bytes: &[u8]) {
-    let mut buffer = [FOUND; 11460];
+    let mut buffer = [FOUND; BUFFER];
     let answer = whole::load_bytes(&mut buffer, bytes);
     report(b" bytes ", answer, &buffer);
 }
 
 fn by_words(words: &[u32]) {
-    let mut buffer = [FOUND; 11460];
+    let mut buffer = [FOUND; BUFFER];
     let answer = whole::load_words(&mut buffer, words);
     report(b" words ", answer, &buffer);
 }
@@ -82,7 +86,7 @@ fn in_writes(buffer: &mut [u32], words: &[u32], most: usize) -> Answer
 fn by_writes(way: &[u8], words: &[u32], most: usize)
     requires { ⌜ 0 < most ⌝ }
 {
-    let mut buffer = [FOUND; 11460];
+    let mut buffer = [FOUND; BUFFER];
     let answer = in_writes(&mut buffer, words, most);
     report(way, answer, &buffer);
 }

@@ -1,7 +1,7 @@
 -- Laws of a search that looks at a group of entries at once: what is found in the group is found in the scan.
 use mathlib.Core.Path.{_≡_, refl, sym, _∙_, ap, subst}
 use mathlib.Core.Bool.{Bool, true, false, not, _||_, true≢false}
-use Prim.Native.Nat.{ℕ, zero, suc, _+_, _-_, _/_, _^_, _<_, _≤_}
+use Prim.Native.Nat.{ℕ, zero, suc, _+_, _-_, _/_, _^_, _≤_}
 use native.Mathlib.Nat.{add-zero, add-suc}
 use native.Mathlib.Numerals.{add-one}
 use native.Mathlib.Omega.{arith}
@@ -65,7 +65,7 @@ not-none true e = absurd (true≢false (sym e))
 not-none false e = refl
 
 -- a scan in two parts
-pub some-parts : (m n : ℕ) (p : ℕ → Bool) → some-below (n + m) p ≡ some-below n p || some-below m (from n p)
+some-parts : (m n : ℕ) (p : ℕ → Bool) → some-below (n + m) p ≡ some-below n p || some-below m (from n p)
 unfolding some-below
 some-parts zero n p = ap (λ (k : ℕ). some-below k p) (add-zero n) ∙ sym (or-nothing (some-below n p))
   where

@@ -10,14 +10,13 @@ use lib.ListN.{length}
 use lib.Seq.{sets}
 use borrow.Author.Tests.{ltb-false}
 use Rattle.crc.specs.Crc.{wordsIn}
-use Rattle.layout.specs.Layout.{imageWords, entryWords, imageIn}
-use Rattle.layout.specs.Loaded.{overLimit}
-use Rattle.tables.specs.Rows.{sizeOf, mostOf}
-use Rattle.tables.specs.Tables.{indexOf}
-use Rattle.stream.specs.Bridge.{room-inside}
+use Rattle.image.specs.Layout.{imageWords, entryWords, imageIn}
+use Rattle.image.specs.Loaded.{overLimit}
+use Rattle.image.specs.Rows.{sizeOf, mostOf}
+use Rattle.image.specs.RowLaws.{room-inside}
+use Rattle.image.specs.declared.tables.Table.{Table}
 use Rattle.stream.specs.Fine.{Roomy, undamaged-fine}
 use Rattle.stream.specs.Machine.{Machine, at, filling, placeIn, begun, overdueIn, beyond, damaged, outside, run, written, wrote}
-use Rattle.stream.specs.Runs.{index-lt}
 use Rattle.stream.specs.declared.Answer.the-variants.{More}
 use Rattle.stream.specs.declared.Load.{Load}
 use Rattle.stream.specs.declared.Phase.{Phase}
@@ -29,12 +28,12 @@ use Rattle.one_block.proofs.Laws.{data-run}
 
 -- ---- a place in the image: each test has failed
 
-record Passed (buffer : List ℕ) (k placed due n r : ℕ) : Type 0 where
+record Passed (buffer : List ℕ) (t : Table) (placed due n r : ℕ) : Type 0 where
   some : outside n ≡ false
   fits : n ≤ due
   within : overLimit (imageIn buffer) ≡ false
-  room : beyond (imageIn buffer) k placed due ≡ false
-  is : r ≡ placeIn buffer k placed
+  room : beyond (imageIn buffer) t placed due ≡ false
+  is : r ≡ placeIn buffer t placed
 
 all-failed : (a b c d : Bool) (p : ℕ) → cond a imageWords (cond b imageWords (cond c imageWords (cond d imageWords p))) < imageWords
     → (a ≡ false) × (b ≡ false) × (c ≡ false) × (d ≡ false) × (cond a imageWords (cond b imageWords (cond c imageWords (cond d imageWords p))) ≡ p)
@@ -44,10 +43,10 @@ all-failed false false true d p h = absurd (omega arith)
 all-failed false false false true p h = absurd (omega arith)
 all-failed false false false false p h = (refl, refl, refl, refl, refl)
 
-passed : (buffer : List ℕ) (k placed due n r : ℕ) → r ≡ dataPlace buffer k placed due n → r < imageWords → Passed buffer k placed due n r
+passed : (buffer : List ℕ) (t : Table) (placed due n r : ℕ) → r ≡ dataPlace buffer t placed due n → r < imageWords → Passed buffer t placed due n r
 unfolding dataPlace
-passed buffer k placed due n r e h =
-    let q = all-failed (outside n) (ltb due n) (overLimit (imageIn buffer)) (beyond (imageIn buffer) k placed due) (placeIn buffer k placed) (subst (λ (x : ℕ). x < imageWords) e h) in
+passed buffer t placed due n r e h =
+    let q = all-failed (outside n) (ltb due n) (overLimit (imageIn buffer)) (beyond (imageIn buffer) t placed due) (placeIn buffer t placed) (subst (λ (x : ℕ). x < imageWords) e h) in
     record { some = q .0; fits = ltb-false due n (q .1); within = q .2; room = q .3; is = e ∙ q .4 }
 
 -- ---- what the write leaves
@@ -64,14 +63,14 @@ pub record DataWrite (l : Load) (buffer words : List ℕ) (place : ℕ) : Type 0
   }
 
 module _ (l : Load) (buffer words : List ℕ) (place : ℕ) (whole : imageWords ≤ length buffer) (in-block : l .phase ≡ Data)
-    (is : place ≡ dataPlace buffer (indexOf (l .table)) (l .placed) (l .due) (length words)) (image : place < imageWords) where
-  passes : Passed buffer (indexOf (l .table)) (l .placed) (l .due) (length words) place
-  passes = passed buffer (indexOf (l .table)) (l .placed) (l .due) (length words) place is image
+    (is : place ≡ dataPlace buffer (l .table) (l .placed) (l .due) (length words)) (image : place < imageWords) where
+  passes : Passed buffer (l .table) (l .placed) (l .due) (length words) place
+  passes = passed buffer (l .table) (l .placed) (l .due) (length words) place is image
 
   undamaged : damaged l (imageIn buffer) ≡ false
   undamaged =
       ap (λ (p : Phase). cond (begun p) (cond (overLimit (imageIn buffer)) true (overdueIn p l (imageIn buffer))) false) in-block
-      ∙ ap (λ (t : Bool). cond t true (beyond (imageIn buffer) (indexOf (l .table)) (l .placed) (l .due))) (passes .within)
+      ∙ ap (λ (t : Bool). cond t true (beyond (imageIn buffer) (l .table) (l .placed) (l .due))) (passes .within)
       ∙ passes .room
 
   roomy : Roomy Data l buffer
@@ -84,7 +83,7 @@ module _ (l : Load) (buffer words : List ℕ) (place : ℕ) (whole : imageWords 
 
   -- what is due lies among the entries
   ends : place + l .due ≤ entryWords
-  ends = omega (arith, roomy, passes .is, room-inside (indexOf (l .table)) (index-lt (l .table)), mul-comm (mostOf (indexOf (l .table))) (sizeOf (indexOf (l .table))))
+  ends = omega (arith, roomy, passes .is, room-inside (l .table), mul-comm (mostOf (l .table)) (sizeOf (l .table)))
 
   some : 0 < length words
   some = some-word (length words) (passes .some)

@@ -6,8 +6,7 @@ use native.Mathlib.Nat.{not-suc-le-zero}
 use lib.ListN.{length}
 use lib.Seq.{sets}
 use Rattle.crc.specs.Crc.{wordsIn}
-use Rattle.layout.specs.Layout.{entryWords}
-use Rattle.tables.specs.Tables.{indexOf}
+use Rattle.image.specs.Layout.{entryWords}
 use Rattle.stream.specs.Machine.{at, filling, placeIn, stepIn, step, run}
 use Rattle.stream.specs.Runs.{run-data}
 use Rattle.stream.specs.declared.Phase.{Phase}
@@ -15,7 +14,7 @@ use Rattle.stream.specs.declared.Phase.the-variants.{Data}
 use Rattle.stream.specs.declared.Load.{Load}
 
 -- a run of data words from any load that is inside a block
-pub run-filling : (l : Load) (buffer ds : List ℕ) → l .phase ≡ Data → 0 < length ds
+run-filling : (l : Load) (buffer ds : List ℕ) → l .phase ≡ Data → 0 < length ds
     → run (at l buffer) ds ≡ run (at (filling (l .table) (l .placed) (l .due) (l .stream) (l .block)) buffer) ds
 unfolding run step
 run-filling l buffer [] e h = absurd (not-suc-le-zero h)
@@ -24,7 +23,7 @@ run-filling l buffer (d ∷ ds) e h = ap (λ (x : Phase). run (stepIn x l buffer
 -- what was stored and summed is the machine's run
 pub data-run : (l : Load) (buffer ds stored : List ℕ) (place s b : ℕ) → l .phase ≡ Data → 0 < length ds → length ds ≤ l .due
     → place + length ds ≤ entryWords
-    → place ≡ placeIn buffer (indexOf (l .table)) (l .placed)
+    → place ≡ placeIn buffer (l .table) (l .placed)
     → stored ≡ sets buffer place ds
     → s ≡ wordsIn (l .stream) ds
     → b ≡ wordsIn (l .block) ds
@@ -38,4 +37,4 @@ data-run l buffer ds stored place s b e some fits inside ep est es eb =
     ∙ run-data (l .table) (l .placed) (l .due) (l .stream) (l .block) buffer ds fits (subst (λ (x : ℕ). x + length ds ≤ entryWords) ep inside))
   where
     p : ℕ
-    p = placeIn buffer (indexOf (l .table)) (l .placed)
+    p = placeIn buffer (l .table) (l .placed)

@@ -1,16 +1,15 @@
 // Data of one block alone: where the words of a write go that brings nothing else, the copy of them, and the load state after them. Only loads from C
 // and Rust take data so.
 use crc_both::Both;
+use image::tables::Table;
 use placing::refusal;
 use stream::Load;
 use stream::states;
-use tables::Table;
 ghost use mathlib.Core.Path.{_≡_};
 ghost use Prim.Native.Nat.{_+_, _<_, _≤_};
 ghost use lib.ListN.{length};
 ghost use lib.Seq.{sets};
-ghost use Rattle.layout.specs.Layout.{imageWords};
-ghost use Rattle.tables.specs.Tables.{indexOf};
+ghost use Rattle.image.specs.Layout.{imageWords};
 ghost use Rattle.crc.specs.Crc.{wordsIn};
 ghost use Rattle.stream.specs.Fine.{Roomy};
 ghost use Rattle.stream.specs.Machine.{at, run};
@@ -21,20 +20,20 @@ ghost use Rattle.one_block.specs.Data.{dataPlace};
 // Where a write's n words go inside a block, where they are data of this block alone and no test refuses them; else behind the image.
 pub fn data_place(image: &[u32], table: Table, placed: usize, due: usize, n: usize) -> usize
     requires { ⌜ imageWords ≤ length (now image) ⌝ }
-    ensures { λ r. ⌜ r ≡ dataPlace (now (image .entry)) (indexOf table) placed due n ⌝ }
+    ensures { λ r. ⌜ r ≡ dataPlace (now (image .entry)) table placed due n ⌝ }
 {
     if refusal::outside(n) {
-        return layout::IMAGE_WORDS;
+        return image::IMAGE_WORDS;
     }
     if due < n {
-        return layout::IMAGE_WORDS;
+        return image::IMAGE_WORDS;
     }
-    if layout::over_limit(image) {
-        return layout::IMAGE_WORDS;
+    if image::over_limit(image) {
+        return image::IMAGE_WORDS;
     }
     let room = placing::room_of(image, table);
     if refusal::passes(room.left, placed, due) {
-        return layout::IMAGE_WORDS;
+        return image::IMAGE_WORDS;
     }
     room.place + placed
 }

@@ -2,8 +2,8 @@
 use mathlib.Core.Bool.{cond}
 use mathlib.Core.List.{List}
 use Prim.Native.Nat.{ℕ}
-use Rattle.layout.specs.Layout.{imageIn}
-use Rattle.layout.specs.Loaded.{tooShort}
+use Rattle.image.specs.Layout.{imageIn}
+use Rattle.image.specs.Loaded.{tooShort}
 use Rattle.stream.specs.Machine.{damaged, outside}
 use Rattle.stream.specs.declared.Load.{Load}
 

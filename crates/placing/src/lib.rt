@@ -1,16 +1,16 @@
 // Where a block's data go, and what they come to: 7 and a table's count.
 pub mod refusal;
 
+use image::tables;
+use image::tables::Table;
 use stream::Load;
 use stream::states;
-use tables::Table;
 ghost use mathlib.Core.Path.{_≡_};
 ghost use Prim.Native.Nat.{_+_, _*_, _/_, _≤_};
 ghost use lib.ListN.{length};
-ghost use Rattle.layout.specs.Layout.{imageWords, entryWords, imageIn};
-ghost use Rattle.tables.specs.Rows.{sizeOf, mostOf};
+ghost use Rattle.image.specs.Layout.{imageWords, entryWords, imageIn};
+ghost use Rattle.image.specs.Rows.{sizeOf, mostOf};
 ghost use Rattle.image.specs.Sound.{Within};
-ghost use Rattle.tables.specs.Tables.{indexOf};
 ghost use Rattle.stream.specs.Fine.{Roomy};
 ghost use Rattle.stream.specs.Machine.{hadIn, placeIn, filled};
 ghost use Rattle.stream.specs.declared.Phase.the-variants.{Data};
@@ -25,22 +25,22 @@ pub struct Room {
 
 pub fn room_of(image: &[u32], table: Table) -> Room
     requires { ⌜ imageWords ≤ length (now image) ⌝ }
-    requires { ⌜ hadIn (now image) (indexOf table) * sizeOf (indexOf table) ≤ mostOf (indexOf table) * sizeOf (indexOf table) ⌝ }
-    ensures { λ r. ⌜ RoomOf (now (image .entry)) (indexOf table) r ⌝ }
+    requires { ⌜ hadIn (now image) table * sizeOf table ≤ mostOf table * sizeOf table ⌝ }
+    ensures { λ r. ⌜ RoomOf (now (image .entry)) table r ⌝ }
 {
-    let shape = tables::shape_of(table);
-    let had = layout::count(image, tables::index_of(table));
+    let row = tables::row_of(table);
+    let had = image::count(image, table);
     Room {
-        place: shape.base + had * shape.size,
-        left: shape.most * shape.size - had * shape.size,
+        place: row.start + had * row.size,
+        left: row.most * row.size - had * row.size,
     }
 }
 
 // Where the next word of a block goes.
 pub fn place_of(image: &[u32], table: Table, placed: usize, due: usize) -> usize
     requires { ⌜ imageWords ≤ length (now image) ⌝ }
-    requires { ⌜ hadIn (now image) (indexOf table) * sizeOf (indexOf table) + placed + due ≤ mostOf (indexOf table) * sizeOf (indexOf table) ⌝ }
-    ensures { λ r. ⌜ (r ≡ placeIn (now (image .entry)) (indexOf table) placed) × (r + due ≤ entryWords) ⌝ }
+    requires { ⌜ hadIn (now image) table * sizeOf table + placed + due ≤ mostOf table * sizeOf table ⌝ }
+    ensures { λ r. ⌜ (r ≡ placeIn (now (image .entry)) table placed) × (r + due ≤ entryWords) ⌝ }
 {
     room_of(image, table).place + placed
 }
@@ -48,11 +48,11 @@ pub fn place_of(image: &[u32], table: Table, placed: usize, due: usize) -> usize
 // A table's count once a block's checksum has passed.
 fn raised(image: &[u32], table: Table, placed: usize) -> u32
     requires { ⌜ imageWords ≤ length (now image) ⌝ }
-    requires { ⌜ hadIn (now image) (indexOf table) * sizeOf (indexOf table) + placed ≤ mostOf (indexOf table) * sizeOf (indexOf table) ⌝ }
-    ensures { λ r. ⌜ r ≡ hadIn (now (image .entry)) (indexOf table) + placed / sizeOf (indexOf table) ⌝ }
+    requires { ⌜ hadIn (now image) table * sizeOf table + placed ≤ mostOf table * sizeOf table ⌝ }
+    ensures { λ r. ⌜ r ≡ hadIn (now (image .entry)) table + placed / sizeOf table ⌝ }
 {
-    let size = tables::shape_of(table).size;
-    let had = layout::count(image, tables::index_of(table));
+    let size = tables::row_of(table).size;
+    let had = image::count(image, table);
     (had + placed / size) as u32
 }
 
@@ -69,7 +69,7 @@ pub fn filled(image: &mut [u32], load: Load, w: u32) -> Load
             return states::refuse(image, 7);
         }
         let count = raised(image, table, placed);
-        image[11430 + tables::index_of(table)] = count;
+        image::set_count(image, table, count);
         return states::idle(crc::word_in(load.stream, w));
     }
     let place = place_of(image, table, placed, due);

@@ -7,7 +7,7 @@ ghost use mathlib.Core.Path.{_≡_};
 ghost use Prim.Native.Nat.{_+_, _≤_};
 ghost use lib.Dec.{ltb};
 ghost use lib.ListN.{length};
-ghost use Rattle.layout.specs.Layout.{imageWords, imageIn};
+ghost use Rattle.image.specs.Layout.{imageWords, imageIn};
 ghost use Rattle.image.specs.Sound.{Within};
 ghost use Rattle.stream.specs.Machine.{at, overdueIn, damaged, outside, opened};
 ghost use Rattle.placing.specs.Refusal.{writeRefusal};
@@ -47,7 +47,7 @@ fn damaged(image: &[u32], load: Load) -> bool
     if !states::is_begun(phase) {
         return false;
     }
-    if layout::over_limit(image) {
+    if image::over_limit(image) {
         return true;
     }
     overdue(image, load)
@@ -67,7 +67,7 @@ pub fn outside(n: usize) -> bool
 pub fn write_refusal(image: &[u32], load: Load, count: usize) -> u32
     ensures { λ r. ⌜ r ≡ writeRefusal load (now (image .entry)) count ⌝ }
 {
-    if layout::too_short(image) {
+    if image::too_short(image) {
         return 31;
     }
     if damaged(image, load) {
@@ -88,5 +88,5 @@ pub fn open(image: &mut [u32], load: Load)
     if states::is_begun(phase) {
         return;
     }
-    states::clear(image);
+    image::clear(image);
 }

@@ -9,8 +9,9 @@ use lib.ListN.{length}
 use borrow.Author.Tests.{eqb-false}
 use Rattle.laws.specs.Chain.{at-zero, not-zero}
 use Rattle.laws.specs.Scan.{first-within}
-use Rattle.layout.specs.Layout.{countOf}
-use Rattle.image.specs.Fields.{vlanid}
+use Rattle.image.specs.Layout.{countOf}
+use Rattle.image.specs.declared.tables.Table.the-variants.{VlanLookup}
+use Rattle.fields.specs.Fields.{vlanid}
 use Rattle.lookup.specs.Vlan.{vlanAt}
 use Rattle.frame.specs.declared.Intake.{Intake}
 use Rattle.frame.specs.declared.Intake.the-variants as intake
@@ -27,18 +28,18 @@ use Rattle.plan.specs.Enter.{byPlace, byIntake, enterOf}
 -- where 4 finds an entry, it is one of 07's
 abbrev pub Inside : List ℕ → Placed → Type 0
 Inside image Absent = Unit {0}
-Inside image (At place) = place < countOf image 2
+Inside image (At place) = place < countOf image VlanLookup
 
 pub inside : (image : List ℕ) (vlan : ℕ) → Inside image (placedOf image vlan)
 unfolding placedOf
-inside image vlan = by (eqb (vlanAt image vlan) (countOf image 2)) refl
+inside image vlan = by (eqb (vlanAt image vlan) (countOf image VlanLookup)) refl
   where
     less : (a n : ℕ) → a ≤ n → (a ≡ n → ⊥) → a < n
     less a n h e = omega arith
 
-    by : (t : Bool) → t ≡ eqb (vlanAt image vlan) (countOf image 2) → Inside image (cond t Absent (At (vlanAt image vlan)))
+    by : (t : Bool) → t ≡ eqb (vlanAt image vlan) (countOf image VlanLookup) → Inside image (cond t Absent (At (vlanAt image vlan)))
     by true e = tt
-    by false e = less _ _ (first-within (countOf image 2) (λ i. eqb (vlanid image i) vlan)) (eqb-false _ _ (sym e))
+    by false e = less _ _ (first-within (countOf image VlanLookup) (λ i. eqb (vlanid image i) vlan)) (eqb-false _ _ (sym e))
 
 -- a place q that was matched, and a number n that 5 and 6 come to with the source that was read: it drops the frame, or does not
 module _ (image : List ℕ) (port : ℕ) (frame : List ℕ) (vlan priority : ℕ) (tagged : Bool) (q : Placed) (place source n : ℕ) where
@@ -53,7 +54,7 @@ module _ (image : List ℕ) (port : ℕ) (frame : List ℕ) (vlan priority : ℕ
 -- a frame that is let in: sixty bytes, a place of 07, a priority of three bits
 pub record LetIn (image frame : List ℕ) (place priority : ℕ) : Type 0 where
   pub long : 60 ≤ length frame
-  pub there : place < countOf image 2
+  pub there : place < countOf image VlanLookup
   pub narrow : priority < 8
 
 abbrev pub Through : List ℕ → List ℕ → Entered → Type 0
@@ -64,7 +65,7 @@ pub through : (image : List ℕ) (port : ℕ) (frame : List ℕ) → Through ima
 unfolding enterOf
 through image port frame = by-intake (intakeOf image port frame) (whole image port frame)
   where
-    known : (vlan priority place : ℕ) (out : ℕ) → 60 ≤ length frame → priority < 8 → place < countOf image 2 → (t : Bool)
+    known : (vlan priority place : ℕ) (out : ℕ) → 60 ≤ length frame → priority < 8 → place < countOf image VlanLookup → (t : Bool)
         → Through image frame (cond t (In vlan place priority) (Dropped out))
     known vlan priority place out long narrow h true = record { long = long; there = h; narrow = narrow }
     known vlan priority place out long narrow h false = tt

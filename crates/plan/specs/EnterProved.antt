@@ -3,7 +3,7 @@ use mathlib.Core.Path.{_≡_, refl, ap}
 use mathlib.Core.Bool.{Bool, true, false, cond, not}
 use mathlib.Core.List.{List}
 use Prim.Native.Nat.{ℕ}
-use Rattle.image.specs.Fields.{vmembPort}
+use Rattle.fields.specs.Fields.{vmembPort}
 use Rattle.addresses.specs.Address.{holds, barred}
 use Rattle.plan.specs.Steps.{outsider, keptOut}
 

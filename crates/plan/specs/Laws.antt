@@ -7,9 +7,10 @@ use native.Mathlib.Nat.{mod-lt}
 use lib.Pow.{pow-pos}
 use lib.Dec.{ltb, leb}
 use borrow.Author.Tests.{leb-false}
-use Rattle.layout.specs.Layout.{imageIn, countOf, Held}
-use Rattle.image.specs.Sound.{Sound}
-use Rattle.image.specs.Fields.{sharindx, maxlen, smax, rate, partition}
+use Rattle.image.specs.Layout.{imageIn, countOf, Held}
+use Rattle.image.specs.Sound.{Sound, held}
+use Rattle.image.specs.declared.tables.Table.the-variants.{Policing}
+use Rattle.fields.specs.Fields.{sharindx, maxlen, smax, rate, partition}
 use Rattle.frame.specs.Bytes.{octetsOf, destinationOf}
 use Rattle.ports.specs.declared.Sending.{Sending}
 use Rattle.ports.specs.Ports.{portsOf, sendingOf}
@@ -41,18 +42,18 @@ same-course image port destination vlan place priority policer meter s r p to v 
 abbrev pub Loaded : List ℕ → Policed → Type 0
 Loaded image Unmetered = Unit {0}
 Loaded image TooLong = Unit {0}
-Loaded image (By policer meter) = (policer < countOf image 1) × (meter < countOf image 1)
+Loaded image (By policer meter) = (policer < countOf image Policing) × (meter < countOf image Policing)
 
 -- and can be read, by an answer q that was matched
-pub policer-held : (buffer : List ℕ) (q : Policed) (k m : ℕ) → Sound buffer → Loaded (imageIn buffer) q → q ≡ By k m → Held 1 k buffer
-policer-held buffer q k m s l e = record { whole = s .within .whole; within = s .within .policers; there = subst (Loaded (imageIn buffer)) e l .0 }
+pub policer-held : (buffer : List ℕ) (q : Policed) (k m : ℕ) → Sound buffer → Loaded (imageIn buffer) q → q ≡ By k m → Held Policing k buffer
+policer-held buffer q k m s l e = held _ Policing _ (s .within) (subst (Loaded (imageIn buffer)) e l .0)
 
-pub meter-held : (buffer : List ℕ) (q : Policed) (k m : ℕ) → Sound buffer → Loaded (imageIn buffer) q → q ≡ By k m → Held 1 m buffer
-meter-held buffer q k m s l e = record { whole = s .within .whole; within = s .within .policers; there = subst (Loaded (imageIn buffer)) e l .1 }
+pub meter-held : (buffer : List ℕ) (q : Policed) (k m : ℕ) → Sound buffer → Loaded (imageIn buffer) q → q ≡ By k m → Held Policing m buffer
+meter-held buffer q k m s l e = held _ Policing _ (s .within) (subst (Loaded (imageIn buffer)) e l .1)
 
 pub policed : (image : List ℕ) (port priority destination octets : ℕ) → Loaded image (policedOf image port priority destination octets)
 unfolding policedOf
-policed image port priority destination octets = by (leb (countOf image 1) k) refl
+policed image port priority destination octets = by (leb (countOf image Policing) k) refl
   where
     k : ℕ
     k = policerOf port priority destination
@@ -60,22 +61,22 @@ policed image port priority destination octets = by (leb (countOf image 1) k) re
     m : ℕ
     m = sharindx image k
 
-    eight : k < countOf image 1 → m < countOf image 1 → (t : Bool) → Loaded image (cond t TooLong (By k m))
+    eight : k < countOf image Policing → m < countOf image Policing → (t : Bool) → Loaded image (cond t TooLong (By k m))
     eight h l true = tt
     eight h l false = (h, l)
 
-    seven : k < countOf image 1 → (t : Bool) → t ≡ leb (countOf image 1) m
+    seven : k < countOf image Policing → (t : Bool) → t ≡ leb (countOf image Policing) m
         → Loaded image (cond t Unmetered (cond (ltb (maxlen image k) octets) TooLong (By k m)))
     seven h true e = tt
-    seven h false e = eight h (leb-false (countOf image 1) m (sym e)) (ltb (maxlen image k) octets)
+    seven h false e = eight h (leb-false (countOf image Policing) m (sym e)) (ltb (maxlen image k) octets)
 
-    by : (t : Bool) → t ≡ leb (countOf image 1) k → Loaded image (cond t Unmetered (meteredBy image k (sharindx image k) octets))
+    by : (t : Bool) → t ≡ leb (countOf image Policing) k → Loaded image (cond t Unmetered (meteredBy image k (sharindx image k) octets))
     by true e = tt
-    by false e = seven (leb-false (countOf image 1) k (sym e)) (leb (countOf image 1) m) refl
+    by false e = seven (leb-false (countOf image Policing) k (sym e)) (leb (countOf image Policing) m) refl
 
 -- a course's meter is a loaded entry's, with its SMAX; its partition is one of the eight; SMAX and RATE have sixteen bits
 pub record Sane (image : List ℕ) (w : Course) : Type 0 where
-  pub meter : w .meter < countOf image 1
+  pub meter : w .meter < countOf image Policing
   pub own : w .smax ≡ smax image (w .meter)
   pub smax : w .smax < 65536
   pub rate : w .rate < 65536

@@ -1,7 +1,7 @@
 -- A plan: drop 7 or 8, or the course that steps 9 to 11 take. It reads the image and the frame only, and is made on any VLAN, place and priority.
 use mathlib.Core.List.{List}
 use Prim.Native.Nat.{ℕ}
-use Rattle.image.specs.Fields.{smax, rate, partition}
+use Rattle.fields.specs.Fields.{smax, rate, partition}
 use Rattle.frame.specs.Bytes.{octetsOf, destinationOf}
 use Rattle.ports.specs.Ports.{portsOf, sendingOf}
 use Rattle.plan.specs.declared.Policed.{Policed}

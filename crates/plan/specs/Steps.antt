@@ -3,8 +3,9 @@ use mathlib.Core.Bool.{Bool, false, cond, not}
 use mathlib.Core.List.{List}
 use Prim.Native.Nat.{ℕ}
 use lib.Dec.{eqb}
-use Rattle.layout.specs.Layout.{countOf}
-use Rattle.image.specs.Fields.{vmembPort}
+use Rattle.image.specs.Layout.{countOf}
+use Rattle.image.specs.declared.tables.Table.the-variants.{VlanLookup}
+use Rattle.fields.specs.Fields.{vmembPort}
 use Rattle.lookup.specs.Vlan.{vlanAt}
 use Rattle.addresses.specs.Address.{holds, barred}
 use Rattle.plan.specs.declared.enter.Placed.{Placed}
@@ -12,7 +13,7 @@ use Rattle.plan.specs.declared.enter.Placed.the-variants.{Absent, At}
 
 -- an entry of 07, or the count of 07 for none
 abbrev pub placedAt : List ℕ → ℕ → Placed
-placedAt image place = cond (eqb place (countOf image 2)) Absent (At place)
+placedAt image place = cond (eqb place (countOf image VlanLookup)) Absent (At place)
 
 -- 4. "The VLAN has no entry in 07."
 unfoldable pub placedOf : List ℕ → ℕ → Placed

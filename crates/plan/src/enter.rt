@@ -1,10 +1,12 @@
 // Steps 4 to 6, and 1 to 6 as one: is the frame let in, and on which VLAN. They read the image and the frame only; 4 can be run with any VLAN.
 use frame::Intake;
+use image::tables::Table;
 ghost use mathlib.Core.Path.{_≡_};
 ghost use Prim.Native.Nat.{_<_, _≤_};
 ghost use lib.ListN.{length};
-ghost use Rattle.layout.specs.Layout.{imageIn, countOf};
+ghost use Rattle.image.specs.Layout.{imageIn, countOf};
 ghost use Rattle.image.specs.Sound.{Sound};
+ghost use Rattle.image.specs.declared.tables.Table.the-variants.{VlanLookup};
 ghost use Rattle.plan.specs.Steps.{placedOf, outsider, keptOut};
 ghost use Rattle.plan.specs.Enter.{byPlace, enterOf};
 ghost use Rattle.plan.specs.EnterLaws.{Inside};
@@ -31,7 +33,7 @@ pub fn place(image: &[u32], vlan: u64) -> Placed
     ensures { λ r. ⌜ r ≡ placedOf (imageIn (now (image .entry))) vlan ⌝ }
 {
     let place = lookup::vlan::find(image, vlan);
-    if place == layout::count(image, 2) {
+    if place == image::count(image, Table::VlanLookup) {
         return Placed::Absent;
     }
     Placed::At(place)
@@ -40,11 +42,11 @@ pub fn place(image: &[u32], vlan: u64) -> Placed
 // Step 5: membership is asked of tagged frames only.
 fn outsider(image: &[u32], port: usize, tagged: bool, place: usize) -> bool
     requires { ⌜ Sound (now image) ⌝ }
-    requires { ⌜ (port < 5) × (place < countOf (imageIn (now image)) 2) ⌝ }
+    requires { ⌜ (port < 5) × (place < countOf (imageIn (now image)) VlanLookup) ⌝ }
     ensures { λ r. ⌜ r ≡ outsider (imageIn (now (image .entry))) port tagged place ⌝ }
 {
     if tagged {
-        return !addresses::holds(image::vlan::vmemb_port(image, place), port);
+        return !addresses::holds(fields::vlan::vmemb_port(image, place), port);
     }
     false
 }
@@ -52,7 +54,7 @@ fn outsider(image: &[u32], port: usize, tagged: bool, place: usize) -> bool
 // Steps 5 and 6: the number of the one that drops, or 0.
 fn kept_out(image: &[u32], port: usize, vlan: u64, tagged: bool, source: u64, place: usize) -> u32
     requires { ⌜ Sound (now image) ⌝ }
-    requires { ⌜ (port < 5) × (place < countOf (imageIn (now image)) 2) ⌝ }
+    requires { ⌜ (port < 5) × (place < countOf (imageIn (now image)) VlanLookup) ⌝ }
     ensures { λ r. ⌜ r ≡ keptOut (imageIn (now (image .entry))) port vlan tagged source place ⌝ }
 {
     if outsider(image, port, tagged, place) {

@@ -2,11 +2,13 @@
 // They read the image and the frame only, and can be run with any VLAN, place and priority.
 pub mod enter;
 
+use image::tables::Table;
 use ports::Sending;
 ghost use mathlib.Core.Path.{_≡_};
 ghost use Prim.Native.Nat.{_<_};
-ghost use Rattle.layout.specs.Layout.{imageIn, countOf};
+ghost use Rattle.image.specs.Layout.{imageIn, countOf};
 ghost use Rattle.image.specs.Sound.{Sound};
+ghost use Rattle.image.specs.declared.tables.Table.the-variants.{Policing, VlanLookup};
 ghost use Rattle.plan.specs.EnterLaws.{LetIn};
 ghost use Rattle.plan.specs.Police.{policerOf, meteredBy, policedBy};
 ghost use Rattle.plan.specs.Plan.{byPolicer, planOf};
@@ -47,13 +49,13 @@ fn policer_of(port: usize, priority: u64, destination: u64) -> usize
 
 fn metered(image: &[u32], policer: usize, meter: usize, octets: u64) -> Policed
     requires { ⌜ Sound (now image) ⌝ }
-    requires { ⌜ policer < countOf (imageIn (now image)) 1 ⌝ }
+    requires { ⌜ policer < countOf (imageIn (now image)) Policing ⌝ }
     ensures { λ r. ⌜ r ≡ meteredBy (imageIn (now (image .entry))) policer meter octets ⌝ }
 {
-    if layout::count(image, 1) <= meter {
+    if image::count(image, Table::Policing) <= meter {
         return Policed::Unmetered;
     }
-    if image::policing::maxlen(image, policer) < octets {
+    if fields::policing::maxlen(image, policer) < octets {
         return Policed::TooLong;
     }
     Policed::By { policer, meter }
@@ -63,10 +65,10 @@ fn policed_by(image: &[u32], policer: usize, octets: u64) -> Policed
     requires { ⌜ Sound (now image) ⌝ }
     ensures { λ r. ⌜ r ≡ policedBy (imageIn (now (image .entry))) policer octets ⌝ }
 {
-    if layout::count(image, 1) <= policer {
+    if image::count(image, Table::Policing) <= policer {
         return Policed::Unmetered;
     }
-    let meter = image::policing::sharindx(image, policer) as usize;
+    let meter = fields::policing::sharindx(image, policer) as usize;
     metered(image, policer, meter, octets)
 }
 
@@ -80,7 +82,7 @@ fn by_policer(
     policed: Policed,
 ) -> Planned
     requires { ⌜ Sound (now image) ⌝ }
-    requires { ⌜ (port < 5) × (place < countOf (imageIn (now image)) 2) × (priority < 8) ⌝ }
+    requires { ⌜ (port < 5) × (place < countOf (imageIn (now image)) VlanLookup) × (priority < 8) ⌝ }
     requires { ⌜ Loaded (imageIn (now image)) policed ⌝ }
     ensures { λ r. ⌜ r ≡ byPolicer (imageIn (now (image .entry))) port destination vlan place priority policed ⌝ }
 {
@@ -91,9 +93,9 @@ fn by_policer(
             let to = ports::ports(image, port, vlan, place, destination);
             let course = Course {
                 meter,
-                smax: image::policing::smax(image, meter),
-                rate: image::policing::rate(image, meter),
-                partition: image::policing::partition(image, policer) as usize,
+                smax: fields::policing::smax(image, meter),
+                rate: fields::policing::rate(image, meter),
+                partition: fields::policing::partition(image, policer) as usize,
                 sending: ports::send(image, port, to, vlan, priority, place),
             };
             Planned::Goes(course)

@@ -1,14 +1,10 @@
 -- Equal parts make equal wholes.
-use mathlib.Core.Path.{_≡_, refl, sym, _∙_, ap}
-use mathlib.Core.Bool.{Bool, false}
-use mathlib.Core.List.{List}
-use Prim.Native.Nat.{ℕ, zero, suc, _-_, _/_, _%_, _^_, _<_, _≤_}
-use native.Mathlib.Nat.{le-refl, le-of-lt}
+use mathlib.Core.Path.{_≡_, refl, _∙_, ap}
+use mathlib.Core.Bool.{false}
+use Prim.Native.Nat.{ℕ, zero, suc, _-_, _/_, _%_, _^_, _<_}
 use native.Mathlib.Omega.{arith}
 use lib.Bits.{bitAnd, and-shr, and-mod, and-zero-r}
 use lib.Dec.{eqb}
-use Rattle.layout.specs.Layout.{Held}
-use Rattle.image.specs.Sound.{Sound}
 use Rattle.addresses.specs.Address.{holds}
 use Rattle.ports.specs.declared.Sending.{Sending}
 use Rattle.ports.specs.Ports.{maskOf, others, cut}
@@ -42,12 +38,6 @@ same-mask a b c d e a' b' c' d' e' p q r s t =
     ∙ ap (λ (x : ℕ). maskOf a' b' x d e) r
     ∙ ap (λ (x : ℕ). maskOf a' b' c' x e) s
     ∙ ap (λ (x : ℕ). maskOf a' b' c' d' x) t
-
--- each port's entry of 09 is there
-pub port-held : (buffer : List ℕ) (i : ℕ) → Sound buffer → i < 5 → Held 4 i buffer
-port-held buffer i s h =
-    let n = s .has .ports in
-    record { whole = s .within .whole; within = s .within .ports; there = omega arith }
 
 -- no frame goes back to the port that it came from
 pub not-back : (mask port : ℕ) → port < 5 → holds (bitAnd mask (others port)) port ≡ false

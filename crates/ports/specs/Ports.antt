@@ -1,18 +1,19 @@
 -- Ports (document 01, "Ports, with 08's masks from entry port").
-use mathlib.Core.Bool.{Bool, cond}
+use mathlib.Core.Bool.{cond}
 use mathlib.Core.List.{List}
 use Prim.Native.Nat.{ℕ, _+_, _-_, _*_, _^_}
 use lib.Bits.{bitAnd}
 use lib.Dec.{eqb}
-use Rattle.layout.specs.Layout.{countOf}
-use Rattle.image.specs.Fields.{destports, vmembPort, vlanBc, tagPort, bcDomain, reachPort, flDomain, vlanPmap, egress}
+use Rattle.image.specs.Layout.{countOf}
+use Rattle.image.specs.declared.tables.Table.the-variants.{AddressLookup}
+use Rattle.fields.specs.Fields.{destports, vmembPort, vlanBc, tagPort, bcDomain, reachPort, flDomain, vlanPmap, egress}
 use Rattle.addresses.specs.Address.{holds, destinationAt}
 use Rattle.frame.specs.Bytes.{broadcasts}
 use Rattle.ports.specs.declared.Sending.{Sending}
 
 -- "the 05 match .. gives DESTPORTS; with no match, FL_DOMAIN"
 abbrev pub towards : List ℕ → ℕ → ℕ → ℕ
-towards image port found = cond (eqb found (countOf image 0)) (flDomain image port) (destports image found)
+towards image port found = cond (eqb found (countOf image AddressLookup)) (flDomain image port) (destports image found)
 
 -- "broadcast takes BC_DOMAIN cut with VLAN_BC; otherwise the 05 match on destination with the lowest INDEX"
 unfoldable pub wantedOf : List ℕ → ℕ → ℕ → ℕ → ℕ → ℕ

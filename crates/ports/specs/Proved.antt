@@ -1,16 +1,16 @@
 -- What pins the ports: the reception port, what cuts a unicast, and which priority a queue goes by.
-use mathlib.Core.Path.{_≡_, refl, sym, _∙_, ap}
+use mathlib.Core.Path.{_≡_, _∙_, ap}
 use mathlib.Core.Bool.{Bool, true, false, cond}
 use mathlib.Core.List.{List}
 use Prim.Native.Nat.{ℕ, _+_, _<_}
-use lib.Dec.{eqb}
-use borrow.Author.Tests.{eq-eqb, ne-eqb}
-use Rattle.layout.specs.Layout.{countOf}
-use Rattle.image.specs.Fields.{flDomain, destports, vlanPmap, bcDomain, vlanBc, reachPort, vmembPort}
+use borrow.Author.Tests.{ne-eqb}
+use Rattle.image.specs.Layout.{countOf}
+use Rattle.image.specs.declared.tables.Table.the-variants.{AddressLookup}
+use Rattle.fields.specs.Fields.{flDomain, destports, vlanPmap, bcDomain, vlanBc, reachPort, vmembPort}
 use lib.Bits.{bitAnd}
 use Rattle.addresses.specs.Address.{holds, destinationAt}
 use Rattle.frame.specs.Bytes.{broadcasts}
-use Rattle.ports.specs.Ports.{towards, wantedOf, egressPorts, portsOf, queueOf, sendingAt, sendingOf}
+use Rattle.ports.specs.Ports.{towards, wantedOf, egressPorts, portsOf, sendingAt, sendingOf}
 use Rattle.ports.specs.Laws.{not-back}
 
 -- no frame goes back to the port that it came from
@@ -21,7 +21,7 @@ taken-out image port vlan entry destination h =
 
 -- a unicast with a match gets its DESTPORTS, and VLAN_BC has no part in it
 pub unicast : (image : List ℕ) (port vlan entry destination : ℕ) → broadcasts destination ≡ false
-    → (destinationAt image vlan destination ≡ countOf image 0 → ⊥)
+    → (destinationAt image vlan destination ≡ countOf image AddressLookup → ⊥)
     → wantedOf image port vlan entry destination ≡ destports image (destinationAt image vlan destination)
 unfolding wantedOf
 unicast image port vlan entry destination b h =

@@ -1,8 +1,10 @@
 // Where a frame is sent: its ports, its new priority, the ports that tag it, and its five queues. Image and frame only.
+use image::tables::Table;
 ghost use mathlib.Core.Path.{_≡_};
 ghost use Prim.Native.Nat.{_+_, _<_, _≤_};
-ghost use Rattle.layout.specs.Layout.{imageIn, countOf};
+ghost use Rattle.image.specs.Layout.{imageIn, countOf};
 ghost use Rattle.image.specs.Sound.{Sound};
+ghost use Rattle.image.specs.declared.tables.Table.the-variants.{AddressLookup, VlanLookup};
 ghost use Rattle.ports.specs.Ports.{towards, wantedOf, maskOf, egressPorts, others, portsOf, queueOf, sendingOf};
 
 // What a sent frame gets: masks of ports with port 0 the lowest bit, and a queue for each of the five ports, 0 where it is not sent.
@@ -21,23 +23,23 @@ pub struct Sending {
 // The ports of entry `found` of 05, or FL_DOMAIN where it is the count of 05, for none.
 fn towards(image: &[u32], port: usize, found: usize) -> u64
     requires { ⌜ Sound (now image) ⌝ }
-    requires { ⌜ (port < 5) × (found ≤ countOf (imageIn (now image)) 0) ⌝ }
+    requires { ⌜ (port < 5) × (found ≤ countOf (imageIn (now image)) AddressLookup) ⌝ }
     ensures { λ r. ⌜ r ≡ towards (imageIn (now (image .entry))) port found ⌝ }
 {
-    if found == layout::count(image, 0) {
-        return image::forwarding::fl_domain(image, port);
+    if found == image::count(image, Table::AddressLookup) {
+        return fields::forwarding::fl_domain(image, port);
     }
-    image::address::destports(image, found)
+    fields::address::destports(image, found)
 }
 
 // The ports before the cuts that every frame gets. VLAN_BC cuts broadcasts only.
 fn wanted(image: &[u32], port: usize, vlan: u64, entry: usize, destination: u64) -> u64
     requires { ⌜ Sound (now image) ⌝ }
-    requires { ⌜ (port < 5) × (entry < countOf (imageIn (now image)) 2) ⌝ }
+    requires { ⌜ (port < 5) × (entry < countOf (imageIn (now image)) VlanLookup) ⌝ }
     ensures { λ r. ⌜ r ≡ wantedOf (imageIn (now (image .entry))) port vlan entry destination ⌝ }
 {
     if destination == frame::BROADCAST {
-        return image::forwarding::bc_domain(image, port) & image::vlan::vlan_bc(image, entry);
+        return fields::forwarding::bc_domain(image, port) & fields::vlan::vlan_bc(image, entry);
     }
     towards(
         image,
@@ -60,11 +62,11 @@ fn egress_ports(image: &[u32]) -> u64
     ensures { λ r. ⌜ r ≡ egressPorts (imageIn (now (image .entry))) ⌝ }
 {
     mask(
-        image::mac::egress(image, 0),
-        image::mac::egress(image, 1),
-        image::mac::egress(image, 2),
-        image::mac::egress(image, 3),
-        image::mac::egress(image, 4),
+        fields::mac::egress(image, 0),
+        fields::mac::egress(image, 1),
+        fields::mac::egress(image, 2),
+        fields::mac::egress(image, 3),
+        fields::mac::egress(image, 4),
     )
 }
 
@@ -91,12 +93,12 @@ fn others(port: usize) -> u64
 // The ports that the frame is sent to.
 pub fn ports(image: &[u32], port: usize, vlan: u64, entry: usize, destination: u64) -> u64
     requires { ⌜ Sound (now image) ⌝ }
-    requires { ⌜ (port < 5) × (entry < countOf (imageIn (now image)) 2) ⌝ }
+    requires { ⌜ (port < 5) × (entry < countOf (imageIn (now image)) VlanLookup) ⌝ }
     ensures { λ r. ⌜ r ≡ portsOf (imageIn (now (image .entry))) port vlan entry destination ⌝ }
 {
     wanted(image, port, vlan, entry, destination)
-        & image::forwarding::reach_port(image, port)
-        & image::vlan::vmemb_port(image, entry)
+        & fields::forwarding::reach_port(image, port)
+        & fields::vlan::vmemb_port(image, entry)
         & egress_ports(image)
         & others(port)
 }
@@ -108,7 +110,7 @@ fn queue(image: &[u32], ports: u64, q: u64, e: usize) -> u64
     ensures { λ r. ⌜ r ≡ queueOf (imageIn (now (image .entry))) ports q e ⌝ }
 {
     if addresses::holds(ports, e) {
-        return image::forwarding::vlan_pmap(image, 5 + q as usize, e);
+        return fields::forwarding::vlan_pmap(image, 5 + q as usize, e);
     }
     0
 }
@@ -123,15 +125,15 @@ pub fn send(
     entry: usize,
 ) -> Sending
     requires { ⌜ Sound (now image) ⌝ }
-    requires { ⌜ (port < 5) × (priority < 8) × (entry < countOf (imageIn (now image)) 2) ⌝ }
+    requires { ⌜ (port < 5) × (priority < 8) × (entry < countOf (imageIn (now image)) VlanLookup) ⌝ }
     ensures { λ r. ⌜ r ≡ sendingOf (imageIn (now (image .entry))) port ports vlan priority entry ⌝ }
 {
-    let q = image::forwarding::vlan_pmap(image, port, priority as usize);
+    let q = fields::forwarding::vlan_pmap(image, port, priority as usize);
     Sending {
         ports,
         vlan,
         priority: q,
-        tags: ports & image::vlan::tag_port(image, entry),
+        tags: ports & fields::vlan::tag_port(image, entry),
         queue0: queue(image, ports, q, 0),
         queue1: queue(image, ports, q, 1),
         queue2: queue(image, ports, q, 2),

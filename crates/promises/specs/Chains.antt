@@ -1,9 +1,9 @@
 -- Demand 3 over chains of calls: whichever outcomes the promise of `write` permits, one behind the other, the answer, the image, the verdicts and the tiles are the lists'.
-use mathlib.Core.Path.{_≡_, refl, sym, _∙_, ap, subst}
+use mathlib.Core.Path.{_≡_, refl, sym, _∙_, ap}
 use mathlib.Core.List.{List, [], _∷_}
 use Prim.Native.Nat.{ℕ, _≤_}
 use lib.ListN.{length}
-use Rattle.layout.specs.Layout.{imageWords, imageIn}
+use Rattle.image.specs.Layout.{imageWords, imageIn}
 use Rattle.stream.specs.declared.Answer.{Answer}
 use Rattle.stream.specs.declared.Load.{Load}
 use Rattle.stream.specs.Paper.{passed, ended, framed, numbered}
@@ -31,7 +31,7 @@ permitted load buffer c r after p =
     ∙ ap (λ (x : List ℕ). left (wrote load buffer c .answer) (wrote load buffer c .load) x) (p .kept)
 
 -- a chain comes to one thing
-pub chain-is : {w v : Written} {cs : List (List ℕ)} → Chain w cs v → v ≡ writes w cs
+chain-is : {w v : Written} {cs : List (List ℕ)} → Chain w cs v → v ≡ writes w cs
 unfolding writes
 chain-is done = refl
 chain-is (call {w} {v} {c} {cs} {r} {buffer} p q) = chain-is q ∙ ap (λ (x : Written). writes x cs) (permitted (w .load) (w .buffer) c r buffer p)

@@ -8,8 +8,8 @@ use lib.ListN.{length, replicate}
 use native.Mathlib.Nat.{le-of-suc-le-suc}
 use borrow.Author.Tests.{ne-eqb, le-ltb}
 use Rattle.laws.specs.Chain.{hit, pass}
-use Rattle.layout.specs.Layout.{imageWords, imageIn, imageOf}
-use Rattle.layout.specs.Loaded.{tooShort, notLoaded}
+use Rattle.image.specs.Layout.{imageWords, imageIn, imageOf}
+use Rattle.image.specs.Loaded.{tooShort, notLoaded}
 use Rattle.rules.specs.Rules.{ruled}
 use Rattle.stream.specs.Paper.{Framed, refused, cut, passed, outcomeOf, framed, loaded, refusedWith, loadedWords, loadedBytes, asFound}
 use Rattle.stream.specs.Machine.{wrote, untouched, damaged, outside}

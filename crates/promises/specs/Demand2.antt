@@ -8,7 +8,7 @@ use native.Mathlib.Omega.{arith}
 use lib.Dec.{eqb, lit<}
 use lib.ListN.{length, getD, set}
 use borrow.Author.Tests.{eq-eqb, ne-eqb}
-use Rattle.layout.specs.Layout.{imageIn}
+use Rattle.image.specs.Layout.{imageIn}
 use Rattle.ledger.specs.Row.{frames, drops, octets, dropped, last, start, many, cellCount}
 use Rattle.ledger.specs.Range.{outOfRange}
 use Rattle.ledger.specs.Laws.{cells, other-place}

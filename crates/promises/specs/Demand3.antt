@@ -1,26 +1,26 @@
 -- Demand 3. Two whole streams that pass all framing rules and carry the same lists, in any block order and any writes of 1 to 64 words, into any two
 -- buffers with room: the same answer and the same image, those of the lists; and if loaded, the same verdicts and tiles for any one sequence.
-use mathlib.Core.Path.{_≡_, refl, sym, _∙_, ap, subst}
+use mathlib.Core.Path.{_≡_, sym, _∙_, ap, subst}
 use mathlib.Core.Bool.{Bool, true, false, cond}
 use mathlib.Core.List.{List, [], _∷_, _++_}
-use Prim.Native.Nat.{ℕ, _+_, _<_, _≤_}
+use Prim.Native.Nat.{ℕ, _+_, _≤_}
 use lib.Dec.{eqb}
-use lib.ListN.{length, drop, replicate, length-append, length-replicate}
+use lib.ListN.{length, drop, length-append, length-replicate}
 use lib.Seq.{take-at}
 use borrow.Author.Tests.{le-ltb}
 use native.Mathlib.Nat.{le-add-right}
-use Rattle.layout.specs.Layout.{imageWords, imageIn, imageOf}
+use Rattle.image.specs.Layout.{imageWords, imageIn, imageOf}
 use Rattle.image.specs.Images.{length-layout}
-use Rattle.layout.specs.Loaded.{tooShort}
+use Rattle.image.specs.Loaded.{tooShort}
 use Rattle.rules.specs.Rules.{ruled}
-use Rattle.stream.specs.Paper.{Framed, passed, ended, framed, numbered, Outcome, refusedWith}
-use Rattle.stream.specs.Machine.{told, Written}
+use Rattle.stream.specs.Paper.{Framed, passed, ended, framed, numbered, refusedWith}
+use Rattle.stream.specs.Machine.{Written, written}
 use Rattle.stream.specs.Ends.{Reached, final}
 use Rattle.stream.specs.Cutting.{writes, unwritten, words, Cuts, cut-reached}
-use Rattle.stream.specs.Order.{Piece, streamed, All, brings, ordered, same-lists, after}
+use Rattle.stream.specs.Order.{Piece, streamed, All, brings, ordered, same-lists}
 use Rattle.stream.specs.Header.{lengthOf}
-use Rattle.tables.specs.Rows.{rowOf, room}
-use Rattle.stream.specs.Machine.{written}
+use Rattle.image.specs.Rows.{rowOf, room}
+use Rattle.image.specs.declared.tables.Table.{Table}
 use Rattle.ledger.specs.declared.Answer.{Answer}
 use Rattle.ledger.specs.Answers.{answerOf}
 use Rattle.row.specs.Fresh.{freshOf}
@@ -131,7 +131,7 @@ module _ (a b : List ℕ) (long : tooShort a ≡ tooShort b) (image : imageIn a 
       ∙ ap (λ (x : Asked). record { said = said; tile0 = askedOf b g 0; tile1 = askedOf b g 1; tile2 = askedOf b g 2; tile3 = askedOf b g 3; tile4 = x }) (t 4)
 
   -- two buffers with one image: one night
-  pub same-night : (g : List ℕ) (said : List Said) (es : List Event) → night a g said es ≡ night b g said es
+  same-night : (g : List ℕ) (said : List Said) (es : List Event) → night a g said es ≡ night b g said es
   same-night g said [] = same-shown g said
   same-night g said (e ∷ es) =
       ap (λ (x : List ℕ). night a x (said ++ (saidTo a g e ∷ [])) es) (same-step g e)
@@ -162,12 +162,12 @@ same-verdicts-and-tiles lists a b c d cs ds ra rb ca cb ea eb es =
     one = image-of-final lists (drop imageWords a) ∙ sym (image-of-final lists (drop imageWords b))
 
 -- "blocks cut between entries and laid in any order that keeps each list" do pass all framing rules with these lists
-pub any-order-passes : (ps qs : List Piece) (e0 e1 f0 f1 : ℕ) → All ps → All qs → ((k : ℕ) → k < 9 → length (brings k ps) ≤ room (rowOf k))
-    → ((k : ℕ) → k < 9 → brings k ps ≡ brings k qs)
+pub any-order-passes : (ps qs : List Piece) (e0 e1 f0 f1 : ℕ) → All ps → All qs → ((t : Table) → length (brings t ps) ≤ room (rowOf t))
+    → ((t : Table) → brings t ps ≡ brings t qs)
     → lengthOf e1 ≡ 0
     → lengthOf f1 ≡ 0
     → framed (streamed ps e0 e1) ≡ framed (streamed qs f0 f1)
 any-order-passes ps qs e0 e1 f0 f1 ap′ aq fits same he hf =
     ordered ps e0 e1 ap′ fits he
     ∙ ap passed (same-lists ps qs same)
-    ∙ sym (ordered qs f0 f1 aq (λ k h. subst (λ (l : List ℕ). length l ≤ room (rowOf k)) (same k h) (fits k h)) hf)
+    ∙ sym (ordered qs f0 f1 aq (λ t. subst (λ (l : List ℕ). length l ≤ room (rowOf t)) (same t) (fits t)) hf)

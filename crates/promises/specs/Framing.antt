@@ -10,12 +10,18 @@ use lib.Dec.{ltb, eqb}
 use lib.ListN.{length, getD, take, drop, length-drop}
 use borrow.Author.Tests.{eqb-true, eqb-false, eq-eqb, ne-eqb}
 use Rattle.crc.specs.Crc.{checksum}
-use Rattle.tables.specs.Rows.{sizeOf, mostOf}
-use Rattle.tables.specs.Tables.{kindOf}
+use Rattle.image.specs.Rows.{sizeOf, mostOf}
+use Rattle.image.specs.Blocks.{blockOf}
+use Rattle.image.specs.declared.tables.Table.{Table}
+use Rattle.image.specs.declared.tables.Table.the-variants.{AddressLookup}
+use Rattle.image.specs.declared.tables.Block.{Block}
+use Rattle.image.specs.declared.tables.Block.the-variants.{Carried, NotCarried, Unknown}
+use Rattle.stream.specs.declared.Header.{Header}
+use Rattle.stream.specs.declared.Header.the-variants.{Wrong, Right}
 use Rattle.promises.specs.First.{Test, test, First, firstOf, first-is, same-first}
-use Rattle.promises.specs.Ids.{kinds, unknownId, otherId, carriedId}
-use Rattle.stream.specs.Header.{device, idOf, lengthOf, wrong}
-use Rattle.stream.specs.Paper.{Framed, refused, cut, passed, none, put, had, checked, blocks, framed}
+use Rattle.promises.specs.Ids.{names, isUnknown, isOther, isCarried, unknownId, otherId, carriedId}
+use Rattle.stream.specs.Header.{device, idOf, lengthOf, headerOf}
+use Rattle.stream.specs.Paper.{Framed, refused, cut, passed, none, put, had, headedBy, checked, blocks, framed}
 
 -- where a block begins: every word before it, what each table has, and the words from it on
 pub record Place : Type 0 where
@@ -38,9 +44,17 @@ headed (a ∷ b ∷ c ∷ rest) = true
 abbrev pub idAt : Place → ℕ
 idAt p = idOf (getD (p .words) 0 0)
 
--- the ID's table, by its row
-abbrev pub kindAt : Place → ℕ
-kindAt p = kindOf (idAt p)
+abbrev pub blockAt : Place → Block
+blockAt p = blockOf (idAt p)
+
+-- the ID's table; an ID that names none is asked for no table
+abbrev pub tableIn : Block → Table
+tableIn (Carried t) = t
+tableIn NotCarried = AddressLookup
+tableIn Unknown = AddressLookup
+
+abbrev pub tableAt : Place → Table
+tableAt p = tableIn (blockAt p)
 
 abbrev pub lengthAt : Place → ℕ
 lengthAt p = lengthOf (getD (p .words) 1 0)
@@ -83,11 +97,11 @@ notCarried p = isBlock p && otherId (idAt p)
 
 -- 5: "length not whole entries"
 abbrev pub notWhole : Place → Bool
-notWhole p = isBlock p && (carried p && not (eqb (lengthAt p % sizeOf (kindAt p)) 0))
+notWhole p = isBlock p && (carried p && not (eqb (lengthAt p % sizeOf (tableAt p)) 0))
 
 -- 6: "the table would pass its most entries"
 abbrev pub tooMany : Place → Bool
-tooMany p = isBlock p && (carried p && ltb (mostOf (kindAt p)) (had (p .lists) (kindAt p) + lengthAt p / sizeOf (kindAt p)))
+tooMany p = isBlock p && (carried p && ltb (mostOf (tableAt p)) (had (p .lists) (tableAt p) + lengthAt p / sizeOf (tableAt p)))
 
 -- 7: "data checksum wrong"
 abbrev pub dataWrong : Place → Bool
@@ -116,7 +130,7 @@ abbrev pub onward : Place → Place
 onward p =
     place
     (p .before ++ (getD (p .words) 0 0 ∷ getD (p .words) 1 0 ∷ getD (p .words) 2 0 ∷ (dataAt p ++ (getD (behind p) 0 0 ∷ []))))
-    (put (p .lists) (kindAt p) (dataAt p))
+    (put (p .lists) (tableAt p) (dataAt p))
     (drop 1 (behind p))
 
 -- what a stream is told from a place on: the first number that holds there, or what a place behind it tells
@@ -140,84 +154,88 @@ byFirst turns p n = cond (eqb n 0) (cond (isEnd p) (passed (p .lists)) (from tur
 abbrev asked : Place → Bool → Bool → Bool → List Test
 asked p strange other known =
     test 8 (globalWrong p) ∷ test 2 (headerWrong p) ∷ test 3 (isBlock p && strange) ∷ test 4 (isBlock p && other)
-    ∷ test 5 (isBlock p && (known && not (eqb (lengthAt p % sizeOf (kindAt p)) 0)))
-    ∷ test 6 (isBlock p && (known && ltb (mostOf (kindAt p)) (had (p .lists) (kindAt p) + lengthAt p / sizeOf (kindAt p))))
+    ∷ test 5 (isBlock p && (known && not (eqb (lengthAt p % sizeOf (tableAt p)) 0)))
+    ∷ test 6 (isBlock p && (known && ltb (mostOf (tableAt p)) (had (p .lists) (tableAt p) + lengthAt p / sizeOf (tableAt p))))
     ∷ test 7 (dataWrong p) ∷ test 10 (wordsEnd p) ∷ []
 
--- asked of the kind, as the walk asks
-abbrev byKind : Place → List Test
-byKind p = asked p (eqb (kindAt p) 10) (eqb (kindAt p) 9) (not (eqb (kindAt p) 10) && not (eqb (kindAt p) 9))
+-- asked of what the ID names, as the walk asks
+abbrev byName : Place → List Test
+byName p = asked p (isUnknown (blockAt p)) (isOther (blockAt p)) (isCarried (blockAt p))
 
--- which is the same, since the kind and the ID's lists agree
-same-tests : (p : Place) → byKind p ≡ tests p
+-- which is the same, since what it names and the ID's lists agree
+same-tests : (p : Place) → byName p ≡ tests p
 same-tests p =
-    let k = kinds (idAt p) in
-    ap (λ (b : Bool). asked p b (eqb (kindAt p) 9) (not (eqb (kindAt p) 10) && not (eqb (kindAt p) 9))) (k .unknown)
-    ∙ ap (λ (b : Bool). asked p (unknownId (idAt p)) b (not (eqb (kindAt p) 10) && not (eqb (kindAt p) 9))) (k .other)
+    let k = names (idAt p) in
+    ap (λ (b : Bool). asked p b (isOther (blockAt p)) (isCarried (blockAt p))) (k .unknown)
+    ∙ ap (λ (b : Bool). asked p (unknownId (idAt p)) b (isCarried (blockAt p))) (k .other)
     ∙ ap (asked p (unknownId (idAt p)) (otherId (idAt p))) (k .carried)
 
-by-kind : (turns : ℕ) (before : List ℕ) (lists : List (List ℕ)) (ws : List ℕ)
-    → blocks (suc turns) before lists ws ≡ byFirst turns (place before lists ws) (firstOf (byKind (place before lists ws)))
+by-name : (turns : ℕ) (before : List ℕ) (lists : List (List ℕ)) (ws : List ℕ)
+    → blocks (suc turns) before lists ws ≡ byFirst turns (place before lists ws) (firstOf (byName (place before lists ws)))
 unfolding blocks
-by-kind turns before lists [] = refl
-by-kind turns before lists (h0 ∷ []) = refl
-by-kind turns before lists (h0 ∷ h1 ∷ []) = refl
-by-kind turns before lists (h0 ∷ h1 ∷ h2 ∷ rest) =
-    go (eqb n 0) (not (eqb h2 (checksum (before ++ (h0 ∷ h1 ∷ []))))) (not (eqb h2 (checksum (h0 ∷ h1 ∷ [])))) (eqb k 10) (eqb k 9) (not (eqb (n % sizeOf k) 0))
-    (ltb (mostOf k) (had lists k + n / sizeOf k))
-    (drop n rest)
+by-name turns before lists [] = refl
+by-name turns before lists (h0 ∷ []) = refl
+by-name turns before lists (h0 ∷ h1 ∷ []) = refl
+by-name turns before lists (h0 ∷ h1 ∷ h2 ∷ rest) =
+    go (eqb n 0) (not (eqb h2 (checksum (before ++ (h0 ∷ h1 ∷ []))))) (not (eqb h2 (checksum (h0 ∷ h1 ∷ [])))) (blockOf (idOf h0)) (drop n rest)
   where
     n : ℕ
     n = lengthOf h1
 
-    k : ℕ
-    k = kindOf (idOf h0)
-
     ws : List ℕ
     ws = take n rest
 
-    next : ℕ → List ℕ → Framed
-    next sum after = blocks turns (before ++ (h0 ∷ h1 ∷ h2 ∷ (ws ++ (sum ∷ [])))) (put lists k ws) after
+    next : Table → ℕ → List ℕ → Framed
+    next t sum after = blocks turns (before ++ (h0 ∷ h1 ∷ h2 ∷ (ws ++ (sum ∷ [])))) (put lists t ws) after
 
-    wrongBy : Bool → Bool → Bool → Bool → ℕ
-    wrongBy k10 k9 w5 w6 = cond k10 3 (cond k9 4 (cond w5 5 (cond w6 6 0)))
+    -- the tests of 5 and 6, for a table
+    parts : Table → Bool
+    parts t = not (eqb (n % sizeOf t) 0)
 
-    told : Bool → Bool → Bool → Bool → Bool → Bool → Bool → List ℕ → ℕ
-    told z s8 s2 k10 k9 w5 w6 left =
+    over : Table → Bool
+    over t = ltb (mostOf t) (had lists t + n / sizeOf t)
+
+    told : Bool → Bool → Bool → Block → Bool → Bool → List ℕ → ℕ
+    told z s8 s2 b w5 w6 left =
         cond (z && s8) 8
         (cond (not z && s2) 2
-        (cond (not z && k10) 3
-        (cond (not z && k9) 4
-        (cond (not z && ((not k10 && not k9) && w5)) 5
-        (cond (not z && ((not k10 && not k9) && w6)) 6
+        (cond (not z && isUnknown b) 3
+        (cond (not z && isOther b) 4
+        (cond (not z && (isCarried b && w5)) 5
+        (cond (not z && (isCarried b && w6)) 6
         (cond (not z && (some left && not (eqb (getD left 0 0) (checksum ws)))) 7 (cond (not z && not (some left)) 10 0)))))))
 
-    Same : Bool → Bool → Bool → Bool → Bool → Bool → Bool → List ℕ → Type 0
-    Same z s8 s2 k10 k9 w5 w6 left =
-        cond z (cond s8 (refused 8) (passed lists))
-        (cond s2 (refused 2) (cond (not (eqb (wrongBy k10 k9 w5 w6) 0)) (refused (wrongBy k10 k9 w5 w6)) (checked ws left next)))
-        ≡ cond (eqb (told z s8 s2 k10 k9 w5 w6 left) 0) (cond z (passed lists) (next (getD left 0 0) (drop 1 left))) (refusedBy (told z s8 s2 k10 k9 w5 w6 left))
+    By : Bool → Bool → Bool → Block → Bool → Bool → List ℕ → Framed
+    By z s8 s2 b w5 w6 left =
+        cond (eqb (told z s8 s2 b w5 w6 left) 0) (cond z (passed lists) (next (tableIn b) (getD left 0 0) (drop 1 left))) (refusedBy (told z s8 s2 b w5 w6 left))
 
-    seven : (sum : ℕ) (after : List ℕ) (t : Bool)
-        → cond t (refused 7) (next sum after) ≡ cond (eqb (cond t 7 0) 0) (next sum after) (refusedBy (cond t 7 0))
-    seven sum after true = refl
-    seven sum after false = refl
+    Walks : Bool → Bool → Bool → Header → List ℕ → Framed
+    Walks z s8 s2 header left = cond z (cond s8 (refused 8) (passed lists)) (cond s2 (refused 2) (headedBy header (λ t. checked ws left (next t))))
 
-    go : (z s8 s2 k10 k9 w5 w6 : Bool) (left : List ℕ) → Same z s8 s2 k10 k9 w5 w6 left
-    go true true s2 k10 k9 w5 w6 left = refl
-    go true false s2 k10 k9 w5 w6 left = refl
-    go false s8 true k10 k9 w5 w6 left = refl
-    go false s8 false true k9 w5 w6 left = refl
-    go false s8 false false true w5 w6 left = refl
-    go false s8 false false false true w6 left = refl
-    go false s8 false false false false true left = refl
-    go false s8 false false false false false [] = refl
-    go false s8 false false false false false (sum ∷ after) = seven sum after (not (eqb sum (checksum ws)))
+    seven : (t : Table) (sum : ℕ) (after : List ℕ) (b : Bool)
+        → cond b (refused 7) (next t sum after) ≡ cond (eqb (cond b 7 0) 0) (next t sum after) (refusedBy (cond b 7 0))
+    seven t sum after true = refl
+    seven t sum after false = refl
+
+    carry : (t : Table) (s8 w5 w6 : Bool) (left : List ℕ)
+        → Walks false s8 false (cond w5 (Wrong 5) (cond w6 (Wrong 6) (Right t))) left ≡ By false s8 false (Carried t) w5 w6 left
+    carry t s8 true w6 left = refl
+    carry t s8 false true left = refl
+    carry t s8 false false [] = refl
+    carry t s8 false false (sum ∷ after) = seven t sum after (not (eqb sum (checksum ws)))
+
+    go : (z s8 s2 : Bool) (b : Block) (left : List ℕ) → Walks z s8 s2 (headerOf b n (had lists)) left ≡ By z s8 s2 b (parts (tableIn b)) (over (tableIn b)) left
+    go true true s2 b left = refl
+    go true false s2 b left = refl
+    go false s8 true b left = refl
+    go false s8 false Unknown left = refl
+    go false s8 false NotCarried left = refl
+    go false s8 false (Carried t) left = carry t s8 (parts t) (over t) left
 
 one-block : (turns : ℕ) (before : List ℕ) (lists : List (List ℕ)) (ws : List ℕ)
     → blocks (suc turns) before lists ws ≡ byFirst turns (place before lists ws) (firstOf (tests (place before lists ws)))
 one-block turns before lists ws =
-    by-kind turns before lists ws ∙ ap (λ (ts : List Test). byFirst turns (place before lists ws) (firstOf ts)) (same-tests (place before lists ws))
+    by-name turns before lists ws ∙ ap (λ (ts : List Test). byFirst turns (place before lists ws) (firstOf ts)) (same-tests (place before lists ws))
 
 -- the words behind a block are fewer
 shorter : (ws : List ℕ) (n turns : ℕ) → length ws ≤ suc turns → length (drop 1 (drop n (drop 3 ws))) ≤ turns

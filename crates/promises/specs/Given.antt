@@ -1,22 +1,25 @@
 -- Demand 2, of tables: a loaded image gives back each table's entries, as many as its stream brought; and K gets 0 and its tables.
 use mathlib.Core.Path.{_≡_, refl, sym, _∙_, ap, subst}
-use mathlib.Core.Bool.{Bool, true, false, cond, not, true≢false}
+use mathlib.Core.Bool.{Bool, true, false, cond, not}
 use mathlib.Core.List.{List, [], _∷_, _++_}
-use Prim.Native.Nat.{ℕ, zero, suc, _+_, _*_, _/_, _<_, _≤_}
+use Prim.Native.Nat.{ℕ, zero, suc, _+_, _*_, _≤_}
 use native.Mathlib.Nat.{min-eq-left}
 use native.Mathlib.Omega.{arith}
 use lib.Dec.{eqb}
-use lib.ListN.{length, getD, take, drop, length-take, length-drop}
-use borrow.Author.Tests.{eqb-true, not-false}
+use lib.ListN.{length, take, drop, length-take, length-drop}
 use Rattle.crc.specs.Crc.{checksum}
-use Rattle.tables.specs.Rows.{sizeOf}
-use Rattle.layout.specs.Layout.{countOf, entryOf, imageOf}
+use Rattle.image.specs.Rows.{sizeOf}
+use Rattle.image.specs.Layout.{listOf, countOf, entryOf, imageOf}
 use Rattle.image.specs.Images.{layout-count, layout-entry}
-use Rattle.tables.specs.Tables.{kindOf}
+use Rattle.image.specs.Blocks.{blockOf}
+use Rattle.image.specs.declared.tables.Table.{Table}
+use Rattle.image.specs.declared.tables.Block.{Block}
 use Rattle.rules.specs.Rules.{ruled}
-use Rattle.stream.specs.Header.{device, idOf, lengthOf, wrong}
-use Rattle.stream.specs.Headers.{Right, right, kind}
-use Rattle.stream.specs.Paper.{Framed, refused, cut, passed, none, put, had, checked, blocks, framed, Outcome, refusedWith, ended, loaded}
+use Rattle.stream.specs.Header.{device, idOf, lengthOf, headerOf}
+use Rattle.stream.specs.Headers.{Passes, right}
+use Rattle.stream.specs.declared.Header.{Header}
+use Rattle.stream.specs.declared.Header.the-variants.{Wrong, Right}
+use Rattle.stream.specs.Paper.{Framed, refused, cut, passed, none, put, had, headedBy, checked, blocks, framed, Outcome, refusedWith, loaded}
 use Rattle.stream.specs.Bridge.{Sound, sound-none, sound-put}
 use Rattle.config_k.specs.Stream.{K}
 use Rattle.config_k.specs.Tables.{kTables}
@@ -40,44 +43,40 @@ fair (suc turns) before lists (h0 ∷ h1 ∷ h2 ∷ rest) sound =
     n : ℕ
     n = lengthOf h1
 
-    k : ℕ
-    k = kindOf (idOf h0)
+    b : Block
+    b = blockOf (idOf h0)
 
     -- the blocks behind this one are fair
     On : Type 0
     On = (b : List ℕ) (l : List (List ℕ)) (a : List ℕ) → Sound l → Fair (blocks turns b l a)
 
-    next : ℕ → List ℕ → Framed
-    next sum after = blocks turns (before ++ (h0 ∷ h1 ∷ h2 ∷ (take n rest ++ (sum ∷ [])))) (put lists k (take n rest)) after
+    next : Table → ℕ → List ℕ → Framed
+    next t sum after = blocks turns (before ++ (h0 ∷ h1 ∷ h2 ∷ (take n rest ++ (sum ∷ [])))) (put lists t (take n rest)) after
 
-    seven : On → (sum : ℕ) (after : List ℕ) (t : Bool) → Right k (length (take n rest)) (had lists k) → Fair (cond t (refused 7) (next sum after))
-    seven on sum after true ok = tt
-    seven on sum after false ok =
-        on (before ++ (h0 ∷ h1 ∷ h2 ∷ (take n rest ++ (sum ∷ [])))) (put lists k (take n rest)) after (sound-put lists sound k (take n rest) ok)
+    follow : Table → Framed
+    follow t = checked (take n rest) (drop n rest) (next t)
 
-    brought : On → Right k n (had lists k) → (left : List ℕ) → drop n rest ≡ left → Fair (checked (take n rest) left next)
-    brought on ok [] q = tt
-    brought on ok (sum ∷ after) q =
+    seven : On → (t : Table) (sum : ℕ) (after : List ℕ) (wrong : Bool) → Passes t (length (take n rest)) (had lists t)
+        → Fair (cond wrong (refused 7) (next t sum after))
+    seven on t sum after true ok = tt
+    seven on t sum after false ok =
+        on (before ++ (h0 ∷ h1 ∷ h2 ∷ (take n rest ++ (sum ∷ [])))) (put lists t (take n rest)) after (sound-put lists sound t (take n rest) ok)
+
+    brought : On → (t : Table) → Passes t n (had lists t) → (left : List ℕ) → drop n rest ≡ left → Fair (checked (take n rest) left (next t))
+    brought on t ok [] q = tt
+    brought on t ok (sum ∷ after) q =
         let long : length (take n rest) ≡ n = length-take n rest ∙ min-eq-left (omega (arith, simp length-drop at (ap length q))) in
-        seven on sum after (not (eqb sum (checksum (take n rest)))) (subst (λ (x : ℕ). Right k x (had lists k)) (sym long) ok)
+        seven on t sum after (not (eqb sum (checksum (take n rest)))) (subst (λ (x : ℕ). Passes t x (had lists t)) (sym long) ok)
 
-    header : On → (t : Bool) → not (eqb (wrong k n (had lists k)) 0) ≡ t
-        → Fair (cond t (refused (wrong k n (had lists k))) (checked (take n rest) (drop n rest) next))
-    header on true e = tt
-    header on false e = brought on (right k n (had lists k) (kind (idOf h0)) (eqb-true _ 0 (not-false _ e))) (drop n rest) refl
+    header : On → (x : Header) → headerOf b n (had lists) ≡ x → Fair (headedBy x follow)
+    header on (Wrong number) e = tt
+    header on (Right t) e = brought on t (right b n (had lists) t e .passes) (drop n rest) refl
 
-    two : On → (t : Bool)
-        → Fair (cond t (refused 2) (cond (not (eqb (wrong k n (had lists k)) 0)) (refused (wrong k n (had lists k))) (checked (take n rest) (drop n rest) next)))
-    two on true = tt
-    two on false = header on (not (eqb (wrong k n (had lists k)) 0)) refl
-
-    end : On → (z s8 s2 : Bool)
-        → Fair
-        (cond z (cond s8 (refused 8) (passed lists))
-        (cond s2 (refused 2) (cond (not (eqb (wrong k n (had lists k)) 0)) (refused (wrong k n (had lists k))) (checked (take n rest) (drop n rest) next))))
+    end : On → (z s8 s2 : Bool) → Fair (cond z (cond s8 (refused 8) (passed lists)) (cond s2 (refused 2) (headedBy (headerOf b n (had lists)) follow)))
     end on true true s2 = tt
     end on true false s2 = sound
-    end on false s8 s2 = two on s2
+    end on false s8 true = tt
+    end on false s8 false = header on (headerOf b n (had lists)) refl
 
 passed-sound : (words : List ℕ) (lists : List (List ℕ)) → framed words ≡ passed lists → Sound lists
 unfolding framed
@@ -105,17 +104,16 @@ image-of words lists e zero-told =
     go false h q = absurd (borrow.Author.Tests.eqb-false (ruled (imageOf lists)) 0 h q)
 
 -- "A loaded image gives back each table's entries": their number, and each of them
-pub gives-back-the-count : (words : List ℕ) (lists : List (List ℕ)) (k : ℕ) → framed words ≡ passed lists → loaded words .number ≡ 0 → k < 9
-    → countOf (loaded words .image) k * sizeOf k ≡ length (getD lists k [])
-gives-back-the-count words lists k e z h =
-    ap (λ (i : List ℕ). countOf i k * sizeOf k) (image-of words lists e z) ∙ ap (λ (x : ℕ). x * sizeOf k) (layout-count 1 lists k h)
-    ∙ passed-sound words lists e .whole k h
+pub gives-back-the-count : (words : List ℕ) (lists : List (List ℕ)) (t : Table) → framed words ≡ passed lists → loaded words .number ≡ 0
+    → countOf (loaded words .image) t * sizeOf t ≡ length (listOf lists t)
+gives-back-the-count words lists t e z =
+    ap (λ (i : List ℕ). countOf i t * sizeOf t) (image-of words lists e z) ∙ ap (λ (x : ℕ). x * sizeOf t) (layout-count 1 lists t) ∙ passed-sound words lists e .whole t
 
-pub gives-back-each-entry : (words : List ℕ) (lists : List (List ℕ)) (k i : ℕ) → framed words ≡ passed lists → loaded words .number ≡ 0 → k < 9
-    → i * sizeOf k + sizeOf k ≤ length (getD lists k [])
-    → entryOf (loaded words .image) k i ≡ take (sizeOf k) (drop (i * sizeOf k) (getD lists k []))
-gives-back-each-entry words lists k i e z h inside =
-    ap (λ (x : List ℕ). entryOf x k i) (image-of words lists e z) ∙ layout-entry 1 lists k i h (passed-sound words lists e .fits k h) inside
+pub gives-back-each-entry : (words : List ℕ) (lists : List (List ℕ)) (t : Table) (i : ℕ) → framed words ≡ passed lists → loaded words .number ≡ 0
+    → i * sizeOf t + sizeOf t ≤ length (listOf lists t)
+    → entryOf (loaded words .image) t i ≡ take (sizeOf t) (drop (i * sizeOf t) (listOf lists t))
+gives-back-each-entry words lists t i e z inside =
+    ap (λ (x : List ℕ). entryOf x t i) (image-of words lists e z) ∙ layout-entry 1 lists t i (passed-sound words lists e .fits t) inside
 
 -- "demand 2 gives K its answer and tables"
 pub k-gets-0-and-its-tables : loaded K ≡ record { number = 0; image = imageOf kTables }

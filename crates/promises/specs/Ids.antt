@@ -1,15 +1,17 @@
--- A block's ID by the two lists that numbers 3 and 4 name, on the ID alone; and that `kindOf`, which the loader's forms share, says the same.
+-- A block's ID by the two lists that numbers 3 and 4 name, on the ID alone; and that `blockOf`, which the loader's forms share, says the same.
 use mathlib.Core.Path.{_≡_, refl, sym, _∙_, ap, subst}
 use mathlib.Core.Bool.{Bool, true, false, cond, not, _&&_, _||_, true≢false, false≢true}
 use mathlib.Core.List.{List, [], _∷_}
 use Prim.Native.Nat.{ℕ}
-use lib.Dec.{ltb, eqb}
-use borrow.Author.Tests.{eqb-true, eqb-false, ne-eqb, not-true}
-use Rattle.laws.specs.Scan.{first, first-none, first-more}
-use Rattle.tables.specs.Rows.{rowOf, table2}
-use Rattle.tables.specs.Tables.{listed, kindOf}
+use lib.Dec.{eqb}
+use borrow.Author.Tests.{eqb-true}
+use Rattle.laws.specs.Chain.{agree, agreed}
+use Rattle.image.specs.Rows.{Row, rows}
+use Rattle.image.specs.Blocks.{table2, listed, blockIn, blockOf}
+use Rattle.image.specs.declared.tables.Block.{Block}
+use Rattle.image.specs.declared.tables.Block.the-variants.{Carried, NotCarried, Unknown}
 
--- "the table above": document 01's nine IDs
+-- "the table above": document 01's IDs
 abbrev pub carriedIds : List ℕ
 carriedIds = 0x05 ∷ 0x06 ∷ 0x07 ∷ 0x08 ∷ 0x09 ∷ 0x0D ∷ 0x0E ∷ 0x11 ∷ 0x4E ∷ []
 
@@ -25,11 +27,27 @@ unknownId id = not (listed id table2)
 abbrev pub otherId : ℕ → Bool
 otherId id = listed id table2 && not (carriedId id)
 
--- the kind says these three, for any number as an ID
-pub record Kinds (id : ℕ) : Type 0 where
-  pub unknown : eqb (kindOf id) 10 ≡ unknownId id
-  pub other : eqb (kindOf id) 9 ≡ otherId id
-  pub carried : (not (eqb (kindOf id) 10) && not (eqb (kindOf id) 9)) ≡ carriedId id
+-- the three cases of what an ID names
+abbrev pub isUnknown : Block → Bool
+isUnknown (Carried t) = false
+isUnknown NotCarried = false
+isUnknown Unknown = true
+
+abbrev pub isOther : Block → Bool
+isOther (Carried t) = false
+isOther NotCarried = true
+isOther Unknown = false
+
+abbrev pub isCarried : Block → Bool
+isCarried (Carried t) = true
+isCarried NotCarried = false
+isCarried Unknown = false
+
+-- what an ID names says these three, for any number as an ID
+pub record Names (id : ℕ) : Type 0 where
+  pub unknown : isUnknown (blockOf id) ≡ unknownId id
+  pub other : isOther (blockOf id) ≡ otherId id
+  pub carried : isCarried (blockOf id) ≡ carriedId id
 
 -- ---- an ID that is in the list: computed for each
 abbrev all : (ℕ → Bool) → List ℕ → Bool
@@ -46,81 +64,57 @@ found f id (x ∷ xs) a e = go (found f id xs) (f x) refl a (eqb id x) refl e
     go rest true p h true q g = subst (λ (n : ℕ). f n ≡ true) (sym (eqb-true id x q)) p
     go rest true p h false q g = rest h g
 
-abbrev same : Bool → Bool → Bool
-same true b = b
-same false b = not b
-
-is-same : (a b : Bool) → same a b ≡ true → a ≡ b
-is-same true b e = sym e
-is-same false b e = sym (not-true b e)
-
-of-ours : (id : ℕ) → carriedId id ≡ true → Kinds id
-unfolding kindOf first
+of-ours : (id : ℕ) → carriedId id ≡ true → Names id
+unfolding blockOf
 of-ours id e =
     record {
-      unknown = is-same _ _ (found (λ n. same (eqb (kindOf n) 10) (unknownId n)) id carriedIds refl e);
-      other = is-same _ _ (found (λ n. same (eqb (kindOf n) 9) (otherId n)) id carriedIds refl e);
-      carried = is-same _ _ (found (λ n. same (not (eqb (kindOf n) 10) && not (eqb (kindOf n) 9)) (carriedId n)) id carriedIds refl e);
+      unknown = agreed _ _ (found (λ n. agree (isUnknown (blockOf n)) (unknownId n)) id carriedIds refl e);
+      other = agreed _ _ (found (λ n. agree (isOther (blockOf n)) (otherId n)) id carriedIds refl e);
+      carried = agreed _ _ (found (λ n. agree (isCarried (blockOf n)) (carriedId n)) id carriedIds refl e);
     }
 
 -- ---- and one that is not: no row has it
-abbrev NoneOf : ℕ → List ℕ → Type 0
-NoneOf id [] = Unit {0}
-NoneOf id (x ∷ xs) = (eqb x id ≡ false) × NoneOf id xs
+abbrev idsOf : List Row → List ℕ
+idsOf [] = []
+idsOf (r ∷ rs) = r .id ∷ idsOf rs
 
-absent : (id : ℕ) (xs : List ℕ) → listed id xs ≡ false → NoneOf id xs
-absent id [] e = tt
-absent id (x ∷ xs) e = go (absent id xs) (eqb id x) refl e
+no-row : (id : ℕ) (rs : List Row) → listed id (idsOf rs) ≡ false → blockIn id rs ≡ cond (listed id table2) NotCarried Unknown
+no-row id [] e = refl
+no-row id (r ∷ rs) e = go (λ h. no-row id rs h) (eqb id (r .id)) e
   where
-    go : (listed id xs ≡ false → NoneOf id xs) → (t : Bool) → eqb id x ≡ t → (t || listed id xs) ≡ false → (eqb x id ≡ false) × NoneOf id xs
-    go rest true q h = absurd (true≢false h)
-    go rest false q h = (ne-eqb x id (λ y. eqb-false id x q (sym y)), rest h)
+    go : (listed id (idsOf rs) ≡ false → blockIn id rs ≡ cond (listed id table2) NotCarried Unknown) → (t : Bool) → (t || listed id (idsOf rs)) ≡ false
+        → cond t (Carried (r .table)) (blockIn id rs) ≡ cond (listed id table2) NotCarried Unknown
+    go rest true h = absurd (true≢false h)
+    go rest false h = rest h
 
-no-row : (id : ℕ) → NoneOf id carriedIds → first 9 (λ k. eqb (rowOf k .id) id) ≡ 9
-no-row id a =
-    first-more 8 p (first-more 7 p (first-more 6 p (first-more 5 p (first-more 4 p (first-more 3 p (first-more 2 p (first-more 1 p (first-more 0 p (first-none p) (a .0)) (a .1 .0))
-    (a .1 .1 .0))
-    (a .1 .1 .1 .0))
-    (a .1 .1 .1 .1 .0))
-    (a .1 .1 .1 .1 .1 .0))
-    (a .1 .1 .1 .1 .1 .1 .0))
-    (a .1 .1 .1 .1 .1 .1 .1 .0))
-    (a .1 .1 .1 .1 .1 .1 .1 .1 .0)
-  where
-    p : ℕ → Bool
-    p k = eqb (rowOf k .id) id
-
-kind-of-another : (id : ℕ) → carriedId id ≡ false → kindOf id ≡ cond (listed id table2) 9 10
-unfolding kindOf
-kind-of-another id e = ap (λ (n : ℕ). cond (ltb n 9) n (cond (listed id table2) 9 10)) (no-row id (absent id carriedIds e))
-
-another : (id : ℕ) → carriedId id ≡ false → Kinds id
+another : (id : ℕ) → carriedId id ≡ false → Names id
+unfolding blockOf
 another id e =
     record {
-      unknown = ap (λ (n : ℕ). eqb n 10) kind ∙ ten (listed id table2);
-      other = ap (λ (n : ℕ). eqb n 9) kind ∙ two (listed id table2) ∙ ap (λ (b : Bool). listed id table2 && not b) (sym e);
-      carried = ap (λ (n : ℕ). not (eqb n 10) && not (eqb n 9)) kind ∙ none (listed id table2) ∙ sym e;
+      unknown = ap isUnknown names ∙ strange (listed id table2);
+      other = ap isOther names ∙ two (listed id table2) ∙ ap (λ (b : Bool). listed id table2 && not b) (sym e);
+      carried = ap isCarried names ∙ none (listed id table2) ∙ sym e;
     }
   where
-    kind : kindOf id ≡ cond (listed id table2) 9 10
-    kind = kind-of-another id e
+    names : blockOf id ≡ cond (listed id table2) NotCarried Unknown
+    names = no-row id rows e
 
-    ten : (t : Bool) → eqb (cond t 9 10) 10 ≡ not t
-    ten true = refl
-    ten false = refl
+    strange : (t : Bool) → isUnknown (cond t NotCarried Unknown) ≡ not t
+    strange true = refl
+    strange false = refl
 
-    two : (t : Bool) → eqb (cond t 9 10) 9 ≡ (t && not false)
+    two : (t : Bool) → isOther (cond t NotCarried Unknown) ≡ (t && not false)
     two true = refl
     two false = refl
 
-    none : (t : Bool) → (not (eqb (cond t 9 10) 10) && not (eqb (cond t 9 10) 9)) ≡ false
+    none : (t : Bool) → isCarried (cond t NotCarried Unknown) ≡ false
     none true = refl
     none false = refl
 
--- the kind and the lists agree at every ID
-pub kinds : (id : ℕ) → Kinds id
-kinds id = go (carriedId id) refl
+-- what an ID names and the lists agree at every ID
+pub names : (id : ℕ) → Names id
+names id = go (carriedId id) refl
   where
-    go : (t : Bool) → carriedId id ≡ t → Kinds id
+    go : (t : Bool) → carriedId id ≡ t → Names id
     go true e = of-ours id e
     go false e = another id e

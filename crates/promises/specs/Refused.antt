@@ -5,24 +5,26 @@ use mathlib.Core.Bool.{Bool, true, false, cond, not, true≢false, false≢true}
 use mathlib.Core.List.{List, [], _∷_}
 use Prim.Native.Nat.{ℕ, _<_, _≤_}
 use native.Mathlib.Nat.{le-refl}
-use lib.Dec.{eqb, lit<}
-use lib.ListN.{length, drop, replicate, set, length-replicate}
+use lib.Dec.{ltb, eqb, lit<}
+use lib.ListN.{length, drop, replicate, length-replicate}
 use lib.Seq.{take-append-le, take-all}
-use borrow.Author.Tests.{eqb-false}
+use borrow.Author.Tests.{ltb-true, eqb-false}
 use Rattle.laws.specs.Chain.{pass}
-use Rattle.crc.specs.Crc.{checksum, finished}
-use Rattle.layout.specs.Layout.{imageWords, imageIn, imageOf, markAt}
-use Rattle.layout.specs.Loaded.{tooShort, overLimit}
-use Rattle.tables.specs.Tables.{kindOf}
+use Rattle.crc.specs.Crc.{wordIn, checksum, finished}
+use Rattle.image.specs.Layout.{imageWords, imageIn, imageOf, cleared, marked}
+use Rattle.image.specs.Loaded.{tooShort, overLimit}
+use Rattle.image.specs.Blocks.{blockOf}
 use Rattle.rules.specs.Rules.{ruled}
 use Rattle.stream.specs.declared.Answer.{Answer}
 use Rattle.stream.specs.declared.Answer.the-variants.{More, Loaded, Refused}
 use Rattle.stream.specs.declared.Load.{Load}
 use Rattle.stream.specs.declared.Phase.{Phase}
 use Rattle.stream.specs.declared.Phase.the-variants.{Device, Id, Length, Sum, Data, Told}
-use Rattle.stream.specs.Header.{device, idOf, lengthOf, wrong}
+use Rattle.stream.specs.Header.{device, idOf, lengthOf, headerOf}
+use Rattle.stream.specs.declared.Header.{Header}
+use Rattle.stream.specs.declared.Header.the-variants.{Wrong, Right}
 use Rattle.stream.specs.Paper.{Framed, refused, cut, passed, refusedWith, outcomeOf, framed, loaded, numbered}
-use Rattle.stream.specs.Machine.{Machine, at, told, cleared, refuse, hadIn, stepIn, step, run, answerOf, begun, overdueIn, damaged, outside, Written, written, untouched, opened, wrote}
+use Rattle.stream.specs.Machine.{Machine, at, told, refuse, hadIn, stepIn, step, run, answerOf, begun, overdueIn, damaged, outside, Written, written, untouched, opened, wrote}
 use Rattle.stream.specs.Runs.{run-told}
 use Rattle.promises.specs.First.{Test, First, unbroken, this, later}
 use Rattle.promises.specs.Framing.{Place, Tells, breaks, ends, whole, goes, nothing, differs, begins, first-broken-framing}
@@ -84,11 +86,13 @@ step-in Length l buffer w e h = waits _ refl
 step-in Sum l buffer w e h =
     either (eqb (lengthOf (l .second)) 0) _ _
     (either (not (eqb w (finished (l .stream)))) _ _ (refuses buffer 8)
-    (either (eqb (ruled (imageIn (set buffer markAt 1))) 0) _ _ (loads (set buffer markAt 1)) (refuses buffer (ruled (imageIn (set buffer markAt 1))))))
+    (either (eqb (ruled (imageIn (marked buffer))) 0) _ _ (loads (marked buffer)) (refuses buffer (ruled (imageIn (marked buffer))))))
     (either (not (eqb w (checksum (l .first ∷ l .second ∷ [])))) _ _ (refuses buffer 2)
-    (either (not (eqb (wrong (kindOf (idOf (l .first))) (lengthOf (l .second)) (hadIn buffer (kindOf (idOf (l .first))))) 0)) _ _
-    (refuses buffer (wrong (kindOf (idOf (l .first))) (lengthOf (l .second)) (hadIn buffer (kindOf (idOf (l .first))))))
-    (waits _ refl)))
+    (begun-zero (headerOf (blockOf (idOf (l .first))) (lengthOf (l .second)) (hadIn buffer))))
+  where
+    begun-zero : (x : Header) → Zero (Rattle.stream.specs.Machine.begins x (wordIn (l .stream) w) (lengthOf (l .second)) buffer)
+    begun-zero (Wrong number) = refuses buffer number
+    begun-zero (Right t) = waits _ refl
 step-in Data l buffer w e h = either (eqb (l .due) 0) _ _ (either (not (eqb w (finished (l .block)))) _ _ (refuses buffer 7) (waits _ refl)) (waits _ refl)
 step-in (Told n) l buffer w e h = h
 
@@ -162,14 +166,19 @@ told-answer-is-repeated l buffer words n e h d o =
 pub first-write-never-30 : (l : Load) (image : List ℕ) → begun (l .phase) ≡ false → damaged l image ≡ false
 first-write-never-30 l image e = ap (λ (t : Bool). cond t (cond (overLimit image) true (overdueIn (l .phase) l image)) false) e
 
-abbrev Below : List Test → Type 0
-Below [] = Unit {0}
-Below (t ∷ ts) = (t .number < 30) × Below ts
+-- every number of some tests is below 30, as one computed test shows
+abbrev below : List Test → Bool
+below [] = true
+below (t ∷ ts) = cond (ltb (t .number) 30) (below ts) false
 
-first-below : {ts : List Test} {n : ℕ} → Below ts → First ts n → n < 30
+here : (a b : Bool) → cond a b false ≡ true → (a ≡ true) × (b ≡ true)
+here true b e = (refl, e)
+here false b e = absurd (false≢true e)
+
+first-below : {ts : List Test} {n : ℕ} → below ts ≡ true → First ts n → n < 30
 first-below b unbroken = lit< tt
-first-below b (this e) = b .0
-first-below b (later e f) = first-below (b .1) f
+first-below b (this {t} {ts} e) = ltb-true (t .number) 30 (here (ltb (t .number) 30) (below ts) b .0)
+first-below b (later {t} {ts} {n} e f) = first-below (here (ltb (t .number) 30) (below ts) b .1) f
 
 abbrev Small : Framed → Type 0
 Small (refused n) = n < 30
@@ -177,7 +186,7 @@ Small cut = Unit {0}
 Small (passed lists) = Unit {0}
 
 tells-small : {p : Place} {f : Framed} → Tells p f → Small f
-tells-small (breaks f z t) = first-below (lit< tt, (lit< tt, (lit< tt, (lit< tt, (lit< tt, (lit< tt, (lit< tt, (lit< tt, tt)))))))) f
+tells-small (breaks f z t) = first-below refl f
 tells-small (ends f) = tt
 tells-small (whole f e) = tt
 tells-small (goes f e t) = tells-small t
@@ -194,7 +203,7 @@ number-small (passed lists) s = go (eqb (ruled (imageOf lists)) 0)
   where
     go : (t : Bool) → cond t (record { number = 0; image = imageOf lists }) (refusedWith (ruled (imageOf lists))) .number < 30
     go true = lit< tt
-    go false = first-below (lit< tt, (lit< tt, (lit< tt, (lit< tt, (lit< tt, (lit< tt, tt)))))) (first-broken-rule (imageOf lists) .0)
+    go false = first-below refl (first-broken-rule (imageOf lists) .0)
 
 -- "a whole load .. never gives it": its number is below 30
 pub whole-load-never-30 : (words : List ℕ) → loaded words .number < 30

@@ -5,15 +5,17 @@ use mathlib.Core.List.{List, [], _∷_}
 use Prim.Native.Nat.{ℕ}
 use lib.Dec.{ltb, eqb}
 use Rattle.laws.specs.Scan.{total}
-use Rattle.tables.specs.Tables.{kindOf}
-use Rattle.image.specs.Proved.{Packed, row-a, row-b}
-use Rattle.stream.specs.Header.{wrong}
+use Rattle.image.specs.Blocks.{blockOf}
+use Rattle.image.specs.declared.tables.Table.the-variants.{VlanLookup}
+use Rattle.fields.specs.Proved.{Packed, row-a, row-b}
+use Rattle.stream.specs.Header.{headerOf}
+use Rattle.stream.specs.declared.Header.the-variants.{Wrong, Right}
 use Rattle.stream.specs.Proved.{row-c, row-d, row-e}
 use Rattle.rules.specs.Broken.{spaceOver}
 use Rattle.rules.specs.Proved.{row-f, row-g}
 use Rattle.spend.specs.Meter.{refilled, cost}
 use Rattle.spend.specs.Proved.{row-h, row-i, row-j}
-use Rattle.image.specs.Fields.{partSpc, ingress}
+use Rattle.fields.specs.Fields.{partSpc, ingress}
 use Rattle.frame.specs.declared.Intake.the-variants.{Dropped}
 use Rattle.frame.specs.Bytes.{octetsOf, tagOf}
 use Rattle.frame.specs.Intake.{byTag, intakeOf}
@@ -22,9 +24,9 @@ use Rattle.frame.specs.Laws.{row-k-63, row-k-64}
 pub record ProvedTable : Type 0 where
   pub a : Packed (0x08000000 ∷ 0x003FF000 ∷ []) 31 31 0 1
   pub b : Packed (0xF8000000 ∷ 0x0000007F ∷ []) 0 0 0 4095
-  pub c : wrong (kindOf 0x07) 3 0 ≡ 5
-  pub d : wrong (kindOf 0x07) 8192 0 ≡ 0
-  pub e : wrong (kindOf 0x07) 8194 0 ≡ 6
+  pub c : headerOf (blockOf 0x07) 3 (λ t. 0) ≡ Wrong 5
+  pub d : headerOf (blockOf 0x07) 8192 (λ t. 0) ≡ Right VlanLookup
+  pub e : headerOf (blockOf 0x07) 8194 (λ t. 0) ≡ Wrong 6
   pub f : (image : List ℕ) → total 8 (λ j. partSpc image j) ≡ 929 → spaceOver image ≡ false
   pub g : (image : List ℕ) → total 8 (λ j. partSpc image j) ≡ 930 → spaceOver image ≡ true
   pub h : ltb (refilled 64 64 0 511) (cost 64) ≡ true

@@ -10,8 +10,8 @@ use lib.Dec.{ltb, eqb}
 use lib.ListN.{length}
 use lib.Seq.{getD-set-same}
 use borrow.Author.Tests.{eq-eqb, ne-eqb, eqb-true, ltb-false}
-use Rattle.layout.specs.Layout.{imageIn}
-use Rattle.image.specs.Fields.{partSpc}
+use Rattle.image.specs.Layout.{imageIn}
+use Rattle.fields.specs.Fields.{partSpc}
 use Rattle.ledger.specs.Row.{units, many, cellCount, cell, put}
 use Rattle.ledger.specs.Laws.{cells, other-place}
 use Rattle.row.specs.Fresh.{freshOf}

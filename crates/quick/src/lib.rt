@@ -9,7 +9,7 @@ use stream::states::Wrote;
 ghost use mathlib.Core.Path.{_≡_};
 ghost use Prim.Native.Nat.{_<_, _≤_};
 ghost use lib.ListN.{length};
-ghost use Rattle.layout.specs.Layout.{imageWords};
+ghost use Rattle.image.specs.Layout.{imageWords};
 ghost use Rattle.stream.specs.Fine.{Roomy, Fine};
 ghost use Rattle.stream.specs.Machine.{at, run};
 ghost use Rattle.stream.specs.declared.Phase.the-variants.{Data};

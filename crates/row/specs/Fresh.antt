@@ -11,8 +11,9 @@ use lib.Dec.{ltb, eqb, lit≤}
 use lib.ListN.{length, getD, set, replicate, length-append, length-set, List·getD-append}
 use lib.Seq.{set-at, append-snoc, getD-append-add}
 use Rattle.laws.specs.Chain.{hit-lt, pass-lt, at-zero, not-zero}
-use Rattle.layout.specs.Layout.{imageIn, countOf}
-use Rattle.image.specs.Fields.{partSpc}
+use Rattle.image.specs.Layout.{imageIn, countOf}
+use Rattle.image.specs.declared.tables.Table.the-variants.{Policing}
+use Rattle.fields.specs.Fields.{partSpc}
 use Rattle.ledger.specs.declared.Answer.{Answer}
 use Rattle.ledger.specs.declared.Answer.the-variants.{Refused, Done}
 use Rattle.ledger.specs.Row.{units, credit, since, last, start, many, cellCount, put}
@@ -77,12 +78,12 @@ fresh-meter image k r h e =
     less = omega arith
 
 -- nothing from the first meter on that has no entry
-pub fresh-rest : (image : List ℕ) (n : ℕ) → start credit + countOf image 1 ≤ n → freshCell image n ≡ 0
+fresh-rest : (image : List ℕ) (n : ℕ) → start credit + countOf image Policing ≤ n → freshCell image n ≡ 0
 fresh-rest image n h =
     sym (pass-lt n (start credit) 0 _ _ (omega arith) (by (ltb n (start since))))
   where
     by : (t : Bool) → 0 ≡ cond t (fullOf image (n - start credit)) 0
-    by true = pass-lt (n - start credit) (countOf image 1) 0 _ 0 (omega arith) refl
+    by true = pass-lt (n - start credit) (countOf image Policing) 0 _ 0 (omega arith) refl
     by false = refl
 
 -- ---- loops that fill a row of zeros from its front: the first i cells are f's
@@ -96,7 +97,7 @@ unfolding table
 filling-none f = record { within = lit≤ tt; long = refl; is = refl }
 
 -- the part from a on, up to its k
-pub filling-more : (f : ℕ → ℕ) (row : List ℕ) (a k v : ℕ) → Filling f row (a + k) → a + k < cellCount → v ≡ f (a + k) → Filling f (set row (a + k) v) (a + (k + 1))
+filling-more : (f : ℕ → ℕ) (row : List ℕ) (a k v : ℕ) → Filling f row (a + k) → a + k < cellCount → v ≡ f (a + k) → Filling f (set row (a + k) v) (a + (k + 1))
 unfolding table
 filling-more f row a k v l h q =
     record {
@@ -130,7 +131,7 @@ pub meters-on : (image row : List ℕ) (j : ℕ) → Filling (freshCell image) r
 meters-on image row j l a b = subst (Filling (freshCell image) row) (zero-add j ∙ le-antisymm a b) l
 
 -- all that follows is 0
-pub filling-end : (f : ℕ → ℕ) (row : List ℕ) (i : ℕ) → Filling f row i → ((n : ℕ) → i ≤ n → f n ≡ 0) → row ≡ table cellCount f
+filling-end : (f : ℕ → ℕ) (row : List ℕ) (i : ℕ) → Filling f row i → ((n : ℕ) → i ≤ n → f n ≡ 0) → row ≡ table cellCount f
 unfolding table
 filling-end f row i l z = l .is ∙ zeros (cellCount - i) i z ∙ ap (λ (m : ℕ). table m f) all
   where
@@ -149,7 +150,7 @@ filling-end f row i l z = l .is ∙ zeros (cellCount - i) i z ∙ ap (λ (m : �
         ∙ ap (λ (k : ℕ). table k f) (shift i m)
 
 -- the meters' loop has passed every entry
-pub fresh-end : (image row : List ℕ) (k n : ℕ) → Filling (freshCell image) row (start credit + k) → n ≡ countOf image 1 → n ≤ k → row ≡ table cellCount (freshCell image)
+pub fresh-end : (image row : List ℕ) (k n : ℕ) → Filling (freshCell image) row (start credit + k) → n ≡ countOf image Policing → n ≤ k → row ≡ table cellCount (freshCell image)
 fresh-end image row k n l e h =
     filling-end (freshCell image) row (start credit + k) l (λ m g. fresh-rest image m (omega (arith, e)))
 

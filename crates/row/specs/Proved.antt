@@ -4,8 +4,8 @@ use mathlib.Core.Bool.{cond}
 use mathlib.Core.List.{List, [], _∷_}
 use Prim.Native.Nat.{ℕ}
 use lib.Dec.{eqb}
-use Rattle.layout.specs.Layout.{imageIn}
-use Rattle.layout.specs.Loaded.{tooShort}
+use Rattle.image.specs.Layout.{imageIn}
+use Rattle.image.specs.Loaded.{tooShort}
 use Rattle.ledger.specs.declared.Answer.{Answer}
 use Rattle.ledger.specs.Range.{standing}
 use Rattle.ledger.specs.Proved.{same-standing}

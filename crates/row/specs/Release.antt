@@ -7,8 +7,8 @@ use native.Mathlib.Omega.{arith}
 use borrow.Author.Tests.{ltb-false, leb-false, eqb-false, eqb-true}
 use lib.Dec.{ltb, leb, eqb}
 use Rattle.laws.specs.Chain.{at-zero, not-zero, zero-first, zero-rest}
-use Rattle.layout.specs.Layout.{imageIn}
-use Rattle.image.specs.Fields.{partSpc}
+use Rattle.image.specs.Layout.{imageIn}
+use Rattle.fields.specs.Fields.{partSpc}
 use Rattle.ledger.specs.declared.Answer.{Answer}
 use Rattle.ledger.specs.declared.Answer.the-variants.{Refused, Done}
 use Rattle.ledger.specs.Row.{units, many, cell, put}

@@ -1,4 +1,5 @@
 // A fresh ledger of an image: the row that a bench starts its list with.
+use image::tables::Table;
 use ledger::Answer;
 use ledger::CELLS;
 use ledger::CREDIT;
@@ -10,7 +11,7 @@ use ledger::range::full;
 use ledger::range::unloaded;
 ghost use mathlib.Core.Path.{_≡_};
 ghost use Prim.Native.Nat.{_<_};
-ghost use Rattle.layout.specs.Layout.{imageIn};
+ghost use Rattle.image.specs.Layout.{imageIn};
 ghost use Rattle.image.specs.Sound.{Sound};
 ghost use Rattle.row.specs.Fresh.{freshOf, noLedger, Freshened};
 
@@ -22,10 +23,10 @@ fn fresh_row(image: &[u32]) -> [u64; CELLS]
     let mut row = [0u64; CELLS];
     let mut j: usize = 0;
     while j < PARTITIONS {
-        row[UNITS + j] = image::parameters::part_spc(image, j);
+        row[UNITS + j] = fields::parameters::part_spc(image, j);
         j += 1;
     }
-    let n = layout::count(image, 1);
+    let n = image::count(image, Table::Policing);
     let mut k: usize = 0;
     while k < n {
         row[CREDIT + k] = full(image, k);

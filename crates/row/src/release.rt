@@ -5,7 +5,7 @@ use ledger::UNITS;
 use ledger::range::standing;
 ghost use mathlib.Core.Path.{_≡_};
 ghost use Prim.Native.Nat.{_<_};
-ghost use Rattle.layout.specs.Layout.{imageIn};
+ghost use Rattle.image.specs.Layout.{imageIn};
 ghost use Rattle.image.specs.Sound.{Sound};
 ghost use Rattle.row.specs.Release.{unreleased, releaseRefusal, givenTo, HasRoom, Released};
 
@@ -17,7 +17,7 @@ fn unreleased(image: &[u32], row: &[u64; CELLS], partition: usize) -> u32
     if 7 < partition {
         return 36;
     }
-    if image::parameters::part_spc(image, partition) <= row[UNITS + partition] {
+    if fields::parameters::part_spc(image, partition) <= row[UNITS + partition] {
         return 37;
     }
     0

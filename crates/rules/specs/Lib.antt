@@ -1,4 +1,5 @@
--- The loading rules 20 to 25 in their order, and the first one broken.
+-- The loading rules in their order, and the first one broken.
 pub mod Rules
 pub mod Broken
+pub mod Run
 pub mod Proved

@@ -1,11 +1,11 @@
 -- Rows (f) and (g) of document 01's proved table: the eight PART_SPC of an image and rule 24.
-use mathlib.Core.Path.{_≡_, refl, ap, _∙_}
+use mathlib.Core.Path.{_≡_, ap}
 use mathlib.Core.Bool.{true, false}
 use mathlib.Core.List.{List}
 use Prim.Native.Nat.{ℕ}
 use lib.Dec.{ltb}
 use Rattle.laws.specs.Scan.{total}
-use Rattle.image.specs.Fields.{partSpc}
+use Rattle.fields.specs.Fields.{partSpc}
 use Rattle.rules.specs.Broken.{spaceOver}
 
 -- (f) partition sum 929 passes

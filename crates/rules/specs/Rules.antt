@@ -1,8 +1,10 @@
 -- Loading rules (document 01, "Numbers for a refused load"), run on the image once the end block has passed, in this order.
-use mathlib.Core.Bool.{Bool, cond}
+use mathlib.Core.Bool.{Bool, false, cond}
 use mathlib.Core.List.{List, [], _∷_}
 use Prim.Native.Nat.{ℕ}
-use Rattle.layout.specs.Loaded.{incomplete}
+use lib.ListN.{length, getD}
+use Rattle.laws.specs.Scan.{some-below}
+use Rattle.image.specs.Loaded.{incomplete}
 use Rattle.rules.specs.Broken.{vlanTwice, vlanMissing, sharindxBeyond, spaceOver, indexTwice}
 
 -- a rule: its number, and whether an image breaks it
@@ -29,3 +31,24 @@ firstOf (r ∷ rs) image = cond (r .broken image) (r .number) (firstOf rs image)
 -- 0, or the number of the first broken rule
 unfoldable pub ruled : List ℕ → ℕ
 ruled image = firstOf rules image
+
+-- ---- one rule after the other
+
+-- how many rules there are
+abbrev pub ruleCount : ℕ
+ruleCount = length rules
+
+-- no rule: what stands past the list's end, and no image breaks it
+abbrev pub blank : Rule
+blank = record { number = 0; broken = λ image. false }
+
+abbrev pub ruleAt : ℕ → Rule
+ruleAt k = getD rules k blank
+
+-- what rule k says of an image: its number where the image breaks it, else 0
+unfoldable pub said : List ℕ → ℕ → ℕ
+said image k = cond (ruleAt k .broken image) (ruleAt k .number) 0
+
+-- an image breaks some rule before k
+unfoldable pub brokenBefore : List ℕ → ℕ → Bool
+brokenBefore image k = some-below k (λ j. ruleAt j .broken image)

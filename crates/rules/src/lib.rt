@@ -1,45 +1,43 @@
-// The order of the loading rules, and the first one broken.
+// The loading rules, run one after the other up to the first that is broken.
 pub mod broken;
 
-use crate::broken::index_twice;
-use crate::broken::sharindx_beyond;
-use crate::broken::space_over;
-use crate::broken::vlans_broken;
+use crate::broken::VLANIDS;
 ghost use mathlib.Core.Path.{_≡_};
-ghost use lib.ListN.{drop};
-ghost use Rattle.layout.specs.Layout.{imageIn, countOf};
+ghost use mathlib.Core.Bool.{false, cond};
+ghost use Rattle.image.specs.Layout.{imageIn};
 ghost use Rattle.image.specs.Sound.{Bounded};
-ghost use Rattle.rules.specs.Rules.{rules, firstOf, ruled};
+ghost use Rattle.rules.specs.Rules.{ruled, said, brokenBefore};
+ghost use Rattle.rules.specs.Run.{Vlans};
 
-// The rules after 22.
-fn broken_after_22(image: &[u32]) -> u32
-    requires { ⌜ Bounded (now image) ⌝ }
-    requires { ⌜ countOf (imageIn (now image)) 6 ≡ 1 ⌝ }
-    ensures { λ r. ⌜ r ≡ firstOf (drop 3 rules) (imageIn (now (image .entry))) ⌝ }
+// A rule's number where it is broken, else 0.
+fn numbered(number: u32, broken: bool) -> u32
+    ensures { λ r. ⌜ r ≡ cond broken number 0 ⌝ }
 {
-    if sharindx_beyond(image) {
-        return 23;
+    if broken {
+        return number;
     }
-    if space_over(image) {
-        return 24;
-    }
-    if index_twice(image) {
-        return 25;
-    }
-    0 // no rule is broken: the image is loaded
+    0
 }
 
-// The rules after 20, of an image that has what 20 asks for.
-fn broken_after_20(image: &[u32]) -> u32
+// How many rules there are: an arm of `tested` each.
+const RULES: usize = 6;
+
+// What rule k says of an image that breaks none before it. Each arm returns by itself, so it has one line of the proof by itself.
+fn tested(image: &[u32], again: usize, marks: &[u8; VLANIDS], k: usize) -> u32
     requires { ⌜ Bounded (now image) ⌝ }
-    requires { ⌜ (countOf (imageIn (now image)) 4 ≡ 5) × (countOf (imageIn (now image)) 6 ≡ 1) ⌝ }
-    ensures { λ r. ⌜ r ≡ firstOf (drop 1 rules) (imageIn (now (image .entry))) ⌝ }
+    requires { ⌜ Vlans (imageIn (now image)) again (now marks) ⌝ }
+    requires { ⌜ brokenBefore (imageIn (now image)) k ≡ false ⌝ }
+    ensures { λ r. ⌜ r ≡ said (imageIn (now (image .entry))) k ⌝ }
 {
-    let vlans = vlans_broken(image);
-    if vlans != 0 {
-        return vlans;
+    match k {
+        0 => return numbered(20, image::incomplete(image)),
+        1 => return numbered(21, again != 0),
+        2 => return numbered(22, broken::vlan_missing(image, marks)),
+        3 => return numbered(23, broken::sharindx_beyond(image)),
+        4 => return numbered(24, broken::space_over(image)),
+        5 => return numbered(25, broken::index_twice(image)),
+        _ => 0,
     }
-    broken_after_22(image)
 }
 
 // 0, or the number of the first broken rule.
@@ -47,8 +45,14 @@ pub fn first_broken_rule(image: &[u32]) -> u32
     requires { ⌜ Bounded (now image) ⌝ }
     ensures { λ r. ⌜ r ≡ ruled (imageIn (now (image .entry))) ⌝ }
 {
-    if layout::incomplete(image) {
-        return 20;
+    let seen = broken::vlans_seen(image);
+    let mut k: usize = 0;
+    while k < RULES {
+        let n = tested(image, seen.again, &seen.marks, k);
+        if n != 0 {
+            return n;
+        }
+        k += 1;
     }
-    broken_after_20(image)
+    0 // no rule is broken: the image is loaded
 }

@@ -1,7 +1,6 @@
 // What a frame spends, on numbers: its meter's credit, its partition's unit, and its place in a port's counts. Steps 9, 10 and 11.
 ghost use mathlib.Core.Path.{_≡_};
 ghost use Prim.Native.Nat.{_+_, _-_, _*_, _<_, _≤_, min};
-ghost use Rattle.spend.specs.Meter.{refilled, cost};
 ghost use Rattle.spend.specs.Spend.{creditAt, paidOf, spentOf, countedOf};
 
 // Millionths of a bit in an octet, and those that a RATE of 1 gains in a µs.
@@ -72,7 +71,7 @@ fn credit_at(m: Meter, now: u64) -> u64
 }
 
 // Drops 10 and 11, and sent.
-pub fn paid(credit: u64, now: u64, units: u64, octets: u64, ports: u64) -> Spent
+fn paid(credit: u64, now: u64, units: u64, octets: u64, ports: u64) -> Spent
     ensures { λ r. ⌜ r ≡ paidOf credit now units octets ports ⌝ }
 {
     if ports == 0 {

@@ -1,20 +1,22 @@
 -- Every cutting: writes of 1 to 64 words from a fresh load state, into any buffer with room, come to what one run over all the words comes to.
 use mathlib.Core.Path.{_≡_, refl, sym, _∙_, ap, subst}
 use mathlib.Core.Bool.{Bool, true, false, cond, not}
-use mathlib.Core.List.{List, [], _∷_, _++_, append-nil}
-use Prim.Native.Nat.{ℕ, _<_, _≤_}
-use lib.Dec.{eqb, ltb}
+use mathlib.Core.List.{List, [], _∷_, _++_}
+use Prim.Native.Nat.{ℕ, _≤_}
+use lib.Dec.{eqb}
 use lib.ListN.{length, drop}
 use borrow.Author.Tests.{le-ltb}
 use Rattle.laws.specs.Chain.{pass}
-use Rattle.crc.specs.Crc.{finished, checksum}
-use Rattle.layout.specs.Layout.{imageWords, imageIn, markAt}
-use Rattle.layout.specs.Loaded.{tooShort}
-use Rattle.tables.specs.Tables.{kindOf}
+use Rattle.crc.specs.Crc.{wordIn, finished, checksum}
+use Rattle.image.specs.Layout.{imageWords, imageIn, cleared, marked}
+use Rattle.image.specs.Loaded.{tooShort}
+use Rattle.image.specs.Blocks.{blockOf}
 use Rattle.rules.specs.Rules.{ruled}
-use Rattle.stream.specs.Header.{device, idOf, lengthOf, wrong}
+use Rattle.stream.specs.Header.{device, idOf, lengthOf, headerOf}
+use Rattle.stream.specs.declared.Header.{Header}
+use Rattle.stream.specs.declared.Header.the-variants.{Wrong, Right}
 use Rattle.stream.specs.Paper.{framed}
-use Rattle.stream.specs.Machine.{Machine, at, fresh, cleared, refuse, finish, summed, filled, hadIn, stepIn, step, run, begun, damaged, outside, Written, written, untouched, opened, wrote}
+use Rattle.stream.specs.Machine.{Machine, at, fresh, begins, hadIn, stepIn, step, run, begun, damaged, outside, Written, written, untouched, opened, wrote}
 use Rattle.stream.specs.Runs.{run-append}
 use Rattle.stream.specs.Ends.{Reached, run-reached}
 use Rattle.stream.specs.Fine.{Fine, cleared-fine, run-fine, fine-undamaged}
@@ -53,9 +55,13 @@ begun-in Id l buffer w e = refl
 begun-in Length l buffer w e = refl
 begun-in Sum l buffer w e =
     chosen (eqb (lengthOf (l .second)) 0) _ _
-    (chosen (not (eqb w (finished (l .stream)))) _ _ refl (chosen (eqb (ruled (imageIn (lib.ListN.set buffer markAt 1))) 0) _ _ refl refl))
+    (chosen (not (eqb w (finished (l .stream)))) _ _ refl (chosen (eqb (ruled (imageIn (marked buffer))) 0) _ _ refl refl))
     (chosen (not (eqb w (checksum (l .first ∷ l .second ∷ [])))) _ _ refl
-    (chosen (not (eqb (wrong (kindOf (idOf (l .first))) (lengthOf (l .second)) (hadIn buffer (kindOf (idOf (l .first))))) 0)) _ _ refl refl))
+    (begins-begun (headerOf (blockOf (idOf (l .first))) (lengthOf (l .second)) (hadIn buffer))))
+  where
+    begins-begun : (x : Header) → begun (begins x (wordIn (l .stream) w) (lengthOf (l .second)) buffer .load .phase) ≡ true
+    begins-begun (Wrong number) = refl
+    begins-begun (Right t) = refl
 begun-in Data l buffer w e = chosen (eqb (l .due) 0) _ _ (chosen (not (eqb w (finished (l .block)))) _ _ refl refl) refl
 begun-in (Told n) l buffer w e = ap begun e
 
@@ -63,7 +69,7 @@ step-begun : (m : Machine) (w : ℕ) → begun (step m w .load .phase) ≡ true
 unfolding step
 step-begun m w = begun-in (m .load .phase) (m .load) (m .buffer) w refl
 
-pub run-begun : (m : Machine) (ws : List ℕ) → begun (m .load .phase) ≡ true → begun (run m ws .load .phase) ≡ true
+run-begun : (m : Machine) (ws : List ℕ) → begun (m .load .phase) ≡ true → begun (run m ws .load .phase) ≡ true
 unfolding run
 run-begun m [] e = e
 run-begun m (w ∷ ws) e = run-begun (step m w) ws (step-begun m w)

@@ -1,34 +1,31 @@
 -- Where a whole load's run ends: a run that has been told its answer is the paper's outcome, and one that has not is 10.
-use mathlib.Core.Path.{_≡_, refl, sym, _∙_, ap, subst}
+use mathlib.Core.Path.{_≡_, refl, sym, _∙_, ap}
 use mathlib.Core.Bool.{Bool, true, false, cond}
 use mathlib.Core.List.{List, [], _∷_, _++_, append-assoc}
-use Prim.Native.Nat.{ℕ, _+_, _<_, _≤_}
+use Prim.Native.Nat.{ℕ, _+_}
 use native.Mathlib.Omega.{arith}
 use lib.Dec.{eqb}
-use lib.ListN.{length, getD, set, drop, replicate}
-use lib.Seq.{sets, set-append-left, set-at, drop-at}
-use Rattle.tables.specs.Rows.{rows}
-use Rattle.layout.specs.Layout.{imageWords, entryWords, imageIn, entriesFrom, countsFrom, layout, imageOf, markAt}
-use Rattle.image.specs.Images.{length-layout, length-entries, length-counts}
+use lib.ListN.{set, drop, replicate}
+use Rattle.image.specs.Rows.{rows, tableCount}
+use Rattle.image.specs.Layout.{imageWords, imageIn, entriesFrom, countsFrom, state, layout, cleared, marked}
+use Rattle.image.specs.Images.{length-entries}
 use Rattle.rules.specs.Rules.{ruled}
 use Rattle.stream.specs.Paper.{Framed, refused, cut, passed, Outcome, refusedWith, ended, outcomeOf, framed, loaded, numbered, Whole, into}
-use Rattle.stream.specs.Machine.{Machine, at, fresh, told, cleared, refuse, finish, run, answerOf, Written, written}
+use Rattle.stream.specs.Machine.{Machine, at, fresh, told, refuse, finish, run, answerOf, Written, written}
 use Rattle.stream.specs.Stored.{sets-behind}
-use Rattle.stream.specs.Bridge.{Waits, Agrees, bridge, cleared-rest, image-of, rest-of}
-use Rattle.stream.specs.declared.Answer.{Answer}
+use Rattle.stream.specs.Bridge.{Agrees, bridge, cleared-rest, image-of, rest-of}
 use Rattle.stream.specs.declared.Answer.the-variants.{More, Loaded, Refused}
 use Rattle.stream.specs.declared.Phase.{Phase}
 use Rattle.stream.specs.declared.Phase.the-variants.{Device, Id, Length, Sum, Data, Told}
 
 -- the mark goes behind the counts
-pub layout-marked : (lists : List (List ℕ)) (rest : List ℕ) → set (layout 0 lists ++ rest) markAt 1 ≡ layout 1 lists ++ rest
+layout-marked : (lists : List (List ℕ)) (rest : List ℕ) → marked (layout 0 lists ++ rest) ≡ layout 1 lists ++ rest
 unfolding layout
 layout-marked lists rest =
-    ap (λ (l : List ℕ). set l markAt 1) (append-assoc (entriesFrom 0 rows lists) (countsFrom 0 rows lists ++ (0 ∷ replicate 16 0)) rest)
-    ∙ ap (λ (n : ℕ). set (entriesFrom 0 rows lists ++ (countsFrom 0 rows lists ++ (0 ∷ replicate 16 0) ++ rest)) (n + 9) 1)
-    (sym (length-entries 0 rows lists))
-    ∙ sets-behind (entriesFrom 0 rows lists) (countsFrom 0 rows lists ++ (0 ∷ replicate 16 0) ++ rest) 9 (1 ∷ [])
-    ∙ sym (append-assoc (entriesFrom 0 rows lists) (countsFrom 0 rows lists ++ (1 ∷ replicate 16 0)) rest)
+    ap (λ (l : List ℕ). marked l) (append-assoc (entriesFrom 0 rows lists) (countsFrom 0 rows lists ++ state 0) rest)
+    ∙ ap (λ (n : ℕ). set (entriesFrom 0 rows lists ++ (countsFrom 0 rows lists ++ state 0 ++ rest)) (n + tableCount) 1) (sym (length-entries 0 rows lists))
+    ∙ sets-behind (entriesFrom 0 rows lists) (countsFrom 0 rows lists ++ state 0 ++ rest) tableCount (1 ∷ [])
+    ∙ sym (append-assoc (entriesFrom 0 rows lists) (countsFrom 0 rows lists ++ state 1) rest)
 
 -- no answer has been told: 10, and the image zero
 abbrev pub cutShort : List ℕ → Whole

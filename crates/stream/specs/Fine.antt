@@ -1,31 +1,31 @@
 -- What 30 asks of a begun load, and that every step keeps it: so no step stores outside its table, and no cutting is ever refused with 30.
 use mathlib.Core.Path.{_≡_, refl, sym, _∙_, ap, subst}
-use mathlib.Core.Logic.{_≢_}
 use mathlib.Core.Bool.{Bool, true, false, cond, not}
 use mathlib.Core.List.{List, [], _∷_, _++_}
 use Prim.Native.Nat.{ℕ, zero, suc, _+_, _-_, _*_, _/_, _<_, _≤_, zero-le}
-use native.Mathlib.Nat.{add-zero, zero-add, add-suc, suc-add, le-refl, le-trans, le-of-suc-le-suc, not-suc-le-zero, lt-irrefl, le-add-right, add-mul, le-of-mul-le-mul-right, div-mul-le-self, mul-comm}
+use native.Mathlib.Nat.{lt-of-lt-of-le, add-left-cancel, add-zero, le-refl, le-trans, le-of-suc-le-suc, not-suc-le-zero, lt-irrefl, le-add-right, add-mul, le-of-mul-le-mul-right, div-mul-le-self, mul-comm}
 use native.Mathlib.Decide.{ℕ-discrete}
 use native.Mathlib.Omega.{arith}
-use lib.Dec.{ltb, leb, eqb, lit<}
-use lib.ListN.{length, getD, set, take, drop, replicate, length-append, length-set, length-replicate, getD-replicate}
+use lib.Dec.{eqb}
+use lib.ListN.{length, getD, set, drop, replicate, length-append, length-set, length-replicate}
 use lib.Seq.{getD-set-same, getD-set-other}
-use borrow.Author.Tests.{le-ltb, ltb-false, eqb-true, eqb-false, not-false}
+use borrow.Author.Tests.{le-ltb, ltb-false, eqb-true, eqb-false}
 use Rattle.laws.specs.Chain.{none-first, none-rest}
-use Rattle.tables.specs.Rows.{Row, rows, blank, rowOf, sizeOf, mostOf, baseOf, room}
-use Rattle.layout.specs.Layout.{imageWords, entryWords, imageIn, countOf, countAt, markAt}
-use Rattle.layout.specs.Layout.{getD-in}
-use Rattle.layout.specs.Loaded.{aboveFrom, overLimit}
-use Rattle.image.specs.Sound.{Within, within-limits}
-use Rattle.tables.specs.Tables.{indexOf, tables, kindOf}
-use Rattle.tables.specs.declared.Table.{Table}
-use Rattle.tables.specs.declared.Table.the-variants.{AddressLookup}
+use Rattle.image.specs.Rows.{indexOf, sizeOf, mostOf}
+use Rattle.image.specs.RowLaws.{size-positive, room-inside, count-inside, count-before-mark, same-place}
+use Rattle.image.specs.Blocks.{blockOf}
+use Rattle.image.specs.Layout.{imageWords, entryWords, imageIn, countAt, markAt, cleared, counted, marked, getD-in}
+use Rattle.image.specs.Loaded.{overLimit}
+use Rattle.image.specs.Sound.{Within, within-limits, limits-within}
+use Rattle.image.specs.declared.tables.Table.{Table}
 use Rattle.rules.specs.Rules.{ruled}
-use Rattle.stream.specs.Header.{device, idOf, lengthOf, wrong}
-use Rattle.stream.specs.Headers.{kind, table-index, Right, right, right-room}
-use Rattle.stream.specs.Machine.{Machine, at, told, cleared, refuse, hadIn, placeIn, finish, summed, filled, stepIn, step, run, begun, overdueIn, damaged}
-use Rattle.stream.specs.Runs.{index-lt, had-kept}
-use Rattle.stream.specs.Bridge.{size-positive, room-inside}
+use Rattle.crc.specs.Crc.{wordIn}
+use Rattle.stream.specs.Header.{device, idOf, lengthOf, headerOf}
+use Rattle.stream.specs.Headers.{right, passes-room}
+use Rattle.stream.specs.declared.Header.{Header}
+use Rattle.stream.specs.declared.Header.the-variants.{Wrong, Right}
+use Rattle.stream.specs.Machine.{Machine, at, told, refuse, hadIn, placeIn, finish, begins, summed, filled, stepIn, step, run, begun, overdueIn, damaged}
+use Rattle.stream.specs.Runs.{had-kept}
 use Rattle.stream.specs.declared.Phase.{Phase}
 use Rattle.stream.specs.declared.Phase.the-variants.{Device, Id, Length, Sum, Data, Told}
 use Rattle.stream.specs.declared.Load.{Load}
@@ -37,7 +37,7 @@ Roomy Id l buffer = Unit {0}
 Roomy Length l buffer = Unit {0}
 Roomy Sum l buffer = Unit {0}
 Roomy Data l buffer =
-    hadIn buffer (indexOf (l .table)) * sizeOf (indexOf (l .table)) + l .placed + l .due ≤ mostOf (indexOf (l .table)) * sizeOf (indexOf (l .table))
+    hadIn buffer (l .table) * sizeOf (l .table) + l .placed + l .due ≤ mostOf (l .table) * sizeOf (l .table)
 Roomy (Told n) l buffer = Unit {0}
 
 -- the buffer has an image, every count is within its limit, and what is due has room
@@ -47,14 +47,12 @@ pub record Fine (m : Machine) : Type 0 where
   pub roomy : Roomy (m .load .phase) (m .load) (m .buffer)
 
 -- the next word's place lies among the entries
-pub placed-inside : (t : Table) (placed due : ℕ) (buffer : List ℕ) → 0 < due
-    → hadIn buffer (indexOf t) * sizeOf (indexOf t) + placed + due ≤ mostOf (indexOf t) * sizeOf (indexOf t)
-    → placeIn buffer (indexOf t) placed < entryWords
-placed-inside t placed due buffer some room =
-    omega (arith, room-inside (indexOf t) (index-lt t), mul-comm (mostOf (indexOf t)) (sizeOf (indexOf t)))
+pub placed-inside : (t : Table) (placed due : ℕ) (buffer : List ℕ) → 0 < due → hadIn buffer t * sizeOf t + placed + due ≤ mostOf t * sizeOf t
+    → placeIn buffer t placed < entryWords
+placed-inside t placed due buffer some room = omega (arith, room-inside t, mul-comm (mostOf t) (sizeOf t))
 
 -- ---- the buffers that a step leaves
-pub length-cleared : (buffer : List ℕ) → imageWords ≤ length (cleared buffer)
+length-cleared : (buffer : List ℕ) → imageWords ≤ length (cleared buffer)
 unfolding cleared
 length-cleared buffer =
     subst (λ (n : ℕ). imageWords ≤ n)
@@ -67,55 +65,53 @@ zeros-at zero l j h = absurd (not-suc-le-zero h)
 zeros-at (suc n) l zero h = refl
 zeros-at (suc n) l (suc j) h = zeros-at n l j (le-of-suc-le-suc h)
 
-pub cleared-had : (buffer : List ℕ) (k : ℕ) → k < 9 → hadIn (cleared buffer) k ≡ 0
+cleared-had : (buffer : List ℕ) (t : Table) → hadIn (cleared buffer) t ≡ 0
 unfolding cleared
-cleared-had buffer k h =
-    getD-in (replicate imageWords 0 ++ drop imageWords buffer) (countAt k) (omega arith)
-    ∙ zeros-at imageWords (drop imageWords buffer) (countAt k) (omega arith)
+cleared-had buffer t =
+    getD-in (replicate imageWords 0 ++ drop imageWords buffer) (countAt t) (count-inside t) ∙ zeros-at imageWords (drop imageWords buffer) (countAt t) (count-inside t)
 
 pub cleared-fine : (l : Load) (buffer : List ℕ) → Roomy (l .phase) l (cleared buffer) → Fine (at l (cleared buffer))
 cleared-fine l buffer r =
-    record { whole = length-cleared buffer; within = λ k h. subst (λ (n : ℕ). n ≤ mostOf k) (sym (cleared-had buffer k h)) zero-le; roomy = r }
+    record { whole = length-cleared buffer; within = λ t. subst (λ (n : ℕ). n ≤ mostOf t) (sym (cleared-had buffer t)) zero-le; roomy = r }
 
 refuse-fine : (buffer : List ℕ) (n : ℕ) → Fine (refuse buffer n)
 refuse-fine buffer n = cleared-fine (told n) buffer tt
 
 -- a store that leaves the counts
 pub store-fine : (l : Load) (buffer : List ℕ) (i d : ℕ) → imageWords ≤ length buffer → Within (imageIn buffer)
-    → ((k : ℕ) → k < 9 → hadIn (set buffer i d) k ≡ hadIn buffer k)
+    → ((t : Table) → hadIn (set buffer i d) t ≡ hadIn buffer t)
     → Roomy (l .phase) l (set buffer i d)
     → Fine (at l (set buffer i d))
 store-fine l buffer i d w within kept r =
     record {
       whole = subst (λ (n : ℕ). imageWords ≤ n) (sym (length-set buffer i d)) w;
-      within = λ k h. subst (λ (n : ℕ). n ≤ mostOf k) (sym (kept k h)) (within k h);
+      within = λ t. subst (λ (n : ℕ). n ≤ mostOf t) (sym (kept t)) (within t);
       roomy = r;
     }
 
 -- the mark stands behind the counts
-pub mark-kept : (buffer : List ℕ) (d k : ℕ) → k < 9 → hadIn (set buffer markAt d) k ≡ hadIn buffer k
-mark-kept buffer d k h =
-    getD-in (set buffer markAt d) (countAt k) (omega arith)
-    ∙ getD-set-other buffer markAt (countAt k) d 0 (λ e. lt-irrefl (countAt k) (subst (λ (x : ℕ). countAt k < x) (sym e) (omega arith)))
-    ∙ sym (getD-in buffer (countAt k) (omega arith))
+pub mark-kept : (buffer : List ℕ) (t : Table) → hadIn (marked buffer) t ≡ hadIn buffer t
+mark-kept buffer t =
+    getD-in (marked buffer) (countAt t) (count-inside t)
+    ∙ getD-set-other buffer markAt (countAt t) 1 0 (λ e. lt-irrefl (countAt t) (subst (λ (x : ℕ). countAt t < x) (sym e) (count-before-mark t)))
+    ∙ sym (getD-in buffer (countAt t) (count-inside t))
 
 -- a count that rises stays within its limit, and the others are kept
-counted : (buffer : List ℕ) (k v i : ℕ) → imageWords ≤ length buffer → Within (imageIn buffer) → k < 9 → v ≤ mostOf k → i < 9
-    → hadIn (set buffer (countAt k) v) i ≤ mostOf i
-counted buffer k v i w within h fits hi = decide (ℕ-discrete i k)
+risen : (buffer : List ℕ) (t : Table) (v : ℕ) → imageWords ≤ length buffer → Within (imageIn buffer) → v ≤ mostOf t → Within (imageIn (counted buffer t v))
+risen buffer t v w within fits u = decide (ℕ-discrete (indexOf u) (indexOf t))
   where
-    decide : Dec (i ≡ k) → hadIn (set buffer (countAt k) v) i ≤ mostOf i
+    decide : Dec (indexOf u ≡ indexOf t) → hadIn (counted buffer t v) u ≤ mostOf u
     decide (yes e) =
-        subst (λ (x : ℕ). hadIn (set buffer (countAt k) v) x ≤ mostOf x) (sym e)
-        (subst (λ (x : ℕ). x ≤ mostOf k)
-        (sym (getD-in (set buffer (countAt k) v) (countAt k) (omega arith) ∙ getD-set-same buffer (countAt k) v 0 (omega arith))) fits)
+        subst (λ (x : Table). hadIn (counted buffer t v) x ≤ mostOf x) (sym (same-place u t e))
+        (subst (λ (x : ℕ). x ≤ mostOf t)
+        (sym (getD-in (counted buffer t v) (countAt t) (count-inside t) ∙ getD-set-same buffer (countAt t) v 0 (lt-of-lt-of-le (count-inside t) w))) fits)
     decide (no ne) =
-        subst (λ (x : ℕ). x ≤ mostOf i)
+        subst (λ (x : ℕ). x ≤ mostOf u)
         (sym
-        (getD-in (set buffer (countAt k) v) (countAt i) (omega arith)
-        ∙ getD-set-other buffer (countAt k) (countAt i) v 0 (λ e. ne (native.Mathlib.Nat.add-left-cancel entryWords e))
-        ∙ sym (getD-in buffer (countAt i) (omega arith))))
-        (within i hi)
+        (getD-in (counted buffer t v) (countAt u) (count-inside u)
+        ∙ getD-set-other buffer (countAt t) (countAt u) v 0 (λ e. ne (add-left-cancel entryWords e))
+        ∙ sym (getD-in buffer (countAt u) (count-inside u))))
+        (within u)
 
 -- ---- a step
 choose : (t : Bool) (a b : Machine) → (t ≡ true → Fine a) → (t ≡ false → Fine b) → Fine (cond t a b)
@@ -127,31 +123,28 @@ same-fine l l′ buffer f r = record { whole = f .whole; within = f .within; roo
 
 finish-fine : (l : Load) (buffer : List ℕ) → Fine (at l buffer) → Fine (finish buffer)
 finish-fine l buffer f =
-    choose (eqb (ruled (imageIn (set buffer markAt 1))) 0) _ _
-    (λ _. store-fine (told 0) buffer markAt 1 (f .whole) (f .within) (mark-kept buffer 1) tt)
-    (λ _. refuse-fine buffer (ruled (imageIn (set buffer markAt 1))))
+    choose (eqb (ruled (imageIn (marked buffer))) 0) _ _
+    (λ _. store-fine (told 0) buffer markAt 1 (f .whole) (f .within) (mark-kept buffer) tt)
+    (λ _. refuse-fine buffer (ruled (imageIn (marked buffer))))
 
 summed-fine : (l : Load) (s h0 h1 : ℕ) (buffer : List ℕ) (w : ℕ) → Fine (at l buffer) → Fine (summed s h0 h1 buffer w)
 summed-fine l s h0 h1 buffer w f =
     choose (eqb n 0) _ _
     (λ _. choose (not (eqb w (Rattle.crc.specs.Crc.finished s))) _ _ (λ _. refuse-fine buffer 8) (λ _. finish-fine l buffer f))
     (λ _. choose (not (eqb w (Rattle.crc.specs.Crc.checksum (h0 ∷ h1 ∷ [])))) _ _ (λ _. refuse-fine buffer 2)
-    (λ _. choose (not (eqb (wrong k n (hadIn buffer k)) 0)) _ _ (λ _. refuse-fine buffer (wrong k n (hadIn buffer k)))
-    (λ e. let ok : Right k n (hadIn buffer k) = right k n (hadIn buffer k) (kind (idOf h0)) (eqb-true _ 0 (not-false _ e)) in
-    record {
-      whole = f .whole;
-      within = f .within;
-      roomy = subst (λ (x : ℕ). hadIn buffer x * sizeOf x + 0 + n ≤ mostOf x * sizeOf x) (sym (table-index k (ok .known))) (fits ok);
-    })))
+    (λ _. begins-fine (headerOf (blockOf (idOf h0)) n (hadIn buffer)) refl))
   where
     n : ℕ
     n = lengthOf h1
 
-    k : ℕ
-    k = kindOf (idOf h0)
-
-    fits : Right k n (hadIn buffer k) → hadIn buffer k * sizeOf k + 0 + n ≤ mostOf k * sizeOf k
-    fits ok = subst (λ (x : ℕ). x + n ≤ mostOf k * sizeOf k) (sym (add-zero _)) (right-room k n (hadIn buffer k) ok)
+    begins-fine : (x : Header) → headerOf (blockOf (idOf h0)) n (hadIn buffer) ≡ x → Fine (begins x (wordIn s w) n buffer)
+    begins-fine (Wrong number) e = refuse-fine buffer number
+    begins-fine (Right t) e =
+        record {
+          whole = f .whole;
+          within = f .within;
+          roomy = subst (λ (x : ℕ). x + n ≤ mostOf t * sizeOf t) (sym (add-zero _)) (passes-room t n (hadIn buffer t) (right (blockOf (idOf h0)) n (hadIn buffer) t e .passes));
+        }
 
 -- a count that rises by what was placed
 pub raised : (had placed s most : ℕ) → 0 < s → had * s + placed + 0 ≤ most * s → had + placed / s ≤ most
@@ -162,23 +155,23 @@ raised had placed s most pos h =
     pos
 
 filled-fine : (l : Load) (t : Table) (placed due s b : ℕ) (buffer : List ℕ) (w : ℕ) → Fine (at l buffer)
-    → hadIn buffer (indexOf t) * sizeOf (indexOf t) + placed + due ≤ mostOf (indexOf t) * sizeOf (indexOf t)
+    → hadIn buffer t * sizeOf t + placed + due ≤ mostOf t * sizeOf t
     → Fine (filled t placed due s b buffer w)
 filled-fine l t placed due s b buffer w f room =
     choose (eqb due 0) _ _
     (λ e. choose (not (eqb w (Rattle.crc.specs.Crc.finished b))) _ _ (λ _. refuse-fine buffer 7)
     (λ _. record {
       whole = subst (λ (n : ℕ). imageWords ≤ n) (sym (length-set buffer _ _)) (f .whole);
-      within = λ i hi. counted buffer (indexOf t) _ i (f .whole) (f .within) (index-lt t)
-          (raised (hadIn buffer (indexOf t)) placed (sizeOf (indexOf t)) (mostOf (indexOf t)) (size-positive (indexOf t) (index-lt t))
-          (subst (λ (x : ℕ). hadIn buffer (indexOf t) * sizeOf (indexOf t) + placed + x ≤ mostOf (indexOf t) * sizeOf (indexOf t)) (eqb-true due 0 e) room)) hi;
+      within = risen buffer t _ (f .whole) (f .within)
+          (raised (hadIn buffer t) placed (sizeOf t) (mostOf t) (size-positive t)
+          (subst (λ (x : ℕ). hadIn buffer t * sizeOf t + placed + x ≤ mostOf t * sizeOf t) (eqb-true due 0 e) room));
       roomy = tt;
     }))
     (λ e. let some : 0 < due = native.Mathlib.Nat.pos-of-ne-zero (eqb-false due 0 e) in
-    let here : placeIn buffer (indexOf t) placed < entryWords = placed-inside t placed due buffer some room in
-    store-fine _ buffer _ w (f .whole) (f .within) (λ k hk. had-kept buffer _ w k here hk)
-    (subst (λ (x : ℕ). x * sizeOf (indexOf t) + (placed + 1) + (due - 1) ≤ mostOf (indexOf t) * sizeOf (indexOf t))
-    (sym (had-kept buffer _ w (indexOf t) here (index-lt t))) (omega arith)))
+    let here : placeIn buffer t placed < entryWords = placed-inside t placed due buffer some room in
+    store-fine _ buffer _ w (f .whole) (f .within) (λ u. had-kept buffer _ w u here)
+    (subst (λ (x : ℕ). x * sizeOf t + (placed + 1) + (due - 1) ≤ mostOf t * sizeOf t)
+    (sym (had-kept buffer _ w t here)) (omega arith)))
 
 -- ---- every step, and every run, keeps it
 step-in-fine : (p : Phase) (l : Load) (buffer : List ℕ) (w : ℕ) → Fine (at l buffer) → Roomy p l buffer → Fine (stepIn p l buffer w)
@@ -199,18 +192,6 @@ run-fine m [] f = f
 run-fine m (w ∷ ws) f = run-fine (step m w) ws (step-fine m w f)
 
 -- ---- 30's test is this
-above-none : (k : ℕ) (rs : List Row) (image : List ℕ) → ((j : ℕ) → j < length rs → countOf image (k + j) ≤ getD rs j blank .most) → aboveFrom k rs image ≡ false
-above-none k [] image h = refl
-above-none k (r ∷ rs) image h =
-    ap (λ (t : Bool). cond t true (aboveFrom (suc k) rs image))
-    (le-ltb (r .most) (countOf image k) (subst (λ (x : ℕ). countOf image x ≤ r .most) (add-zero k) (h 0 (omega arith))))
-    ∙ above-none (suc k) rs image
-    (λ j q. subst (λ (x : ℕ). countOf image x ≤ getD rs j blank .most) (add-suc k j ∙ sym (suc-add k j)) (h (suc j) (omega arith)))
-
-pub limits-within : (image : List ℕ) → Within image → overLimit image ≡ false
-unfolding overLimit
-limits-within image h = above-none 0 rows image (λ j q. subst (λ (x : ℕ). countOf image x ≤ mostOf j) (sym (zero-add j)) (h j q))
-
 due-none : (p : Phase) (l : Load) (buffer : List ℕ) → Roomy p l buffer → overdueIn p l (imageIn buffer) ≡ false
 due-none Device l buffer r = refl
 due-none Id l buffer r = refl

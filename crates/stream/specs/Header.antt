@@ -1,9 +1,13 @@
 -- What a block's header says, and the numbers 3 to 6 that it can be refused with. Both forms and the code share these tests.
-use mathlib.Core.Bool.{Bool, cond, not}
-use mathlib.Core.List.{List}
+use mathlib.Core.Bool.{cond, not}
 use Prim.Native.Nat.{ℕ, _+_, _/_, _%_}
 use lib.Dec.{ltb, eqb}
-use Rattle.tables.specs.Rows.{sizeOf, mostOf}
+use Rattle.image.specs.Rows.{sizeOf, mostOf}
+use Rattle.image.specs.declared.tables.Table.{Table}
+use Rattle.image.specs.declared.tables.Block.{Block}
+use Rattle.image.specs.declared.tables.Block.the-variants.{Carried, NotCarried, Unknown}
+use Rattle.stream.specs.declared.Header.{Header}
+use Rattle.stream.specs.declared.Header.the-variants.{Wrong, Right}
 
 -- "Word 0 is 9E00030E"
 abbrev pub device : ℕ
@@ -17,10 +21,9 @@ idOf first = first / 0x1000000
 abbrev pub lengthOf : ℕ → ℕ
 lengthOf second = second % 0x1000000
 
--- a block of n data words for the ID's kind (a table's row, 9 for one not carried, 10 for none of table 2), with `had` entries there already:
--- 3 "ID not in table 2", 4 "not in the table above", 5 "length not whole entries", 6 "the table would pass its most entries"; 0 where none applies
-abbrev pub wrong : ℕ → ℕ → ℕ → ℕ
-wrong kind n had =
-    cond (eqb kind 10) 3
-    (cond (eqb kind 9) 4
-    (cond (not (eqb (n % sizeOf kind) 0)) 5 (cond (ltb (mostOf kind) (had + n / sizeOf kind)) 6 0)))
+-- a block of n data words, by what its ID names and the entries that each table had: 3 "ID not in table 2", 4 "not in the table above",
+-- 5 "length not whole entries", 6 "the table would pass its most entries"; or its table
+abbrev pub headerOf : Block → ℕ → (Table → ℕ) → Header
+headerOf Unknown n had = Wrong 3
+headerOf NotCarried n had = Wrong 4
+headerOf (Carried t) n had = cond (not (eqb (n % sizeOf t) 0)) (Wrong 5) (cond (ltb (mostOf t) (had t + n / sizeOf t)) (Wrong 6) (Right t))

@@ -1,84 +1,71 @@
--- Laws of a block's header: what an ID's kind can be, and what a header that 3 to 6 do not refuse has.
+-- Laws of a block's header: what one that is not refused has.
 use mathlib.Core.Path.{_≡_, refl, sym, _∙_, ap, subst}
-use mathlib.Core.Logic.{_⊎_, inl, inr, ⊎-elim}
-use mathlib.Core.Bool.{Bool, true, false, cond, not, true≢false}
-use mathlib.Core.List.{List}
-use Prim.Native.Nat.{ℕ, zero, suc, _+_, _*_, _/_, _%_, _<_, _≤_}
-use native.Mathlib.Nat.{suc-ne-zero, lt-irrefl, add-zero, add-mul, mul-le-mul-right, div-add-mod'}
+use mathlib.Core.Bool.{Bool, true, false, cond, not}
+use Prim.Native.Nat.{ℕ, _+_, _*_, _/_, _%_, _≤_}
+use native.Mathlib.Nat.{add-zero, add-mul, mul-le-mul-right, div-add-mod'}
 use native.Mathlib.Omega.{arith}
 use lib.Dec.{ltb, eqb}
-use lib.ListN.{getD}
-use borrow.Author.Tests.{ltb-true, ltb-false, eqb-true, not-false, ne-eqb}
-use Rattle.laws.specs.Scan.{every, every-at, first}
-use Rattle.tables.specs.Rows.{rowOf, sizeOf, mostOf, table2}
-use Rattle.tables.specs.Tables.{indexOf, tables, listed, kindOf}
-use Rattle.tables.specs.declared.Table.the-variants.{AddressLookup}
-use Rattle.stream.specs.Header.{wrong}
+use borrow.Author.Tests.{ltb-false, le-ltb, eqb-true, eq-eqb, not-false}
+use Rattle.image.specs.Rows.{sizeOf, mostOf}
+use Rattle.image.specs.declared.tables.Table.{Table}
+use Rattle.image.specs.declared.tables.Block.{Block}
+use Rattle.image.specs.declared.tables.Block.the-variants.{Carried, NotCarried, Unknown}
+use Rattle.stream.specs.declared.Header.{Header}
+use Rattle.stream.specs.declared.Header.the-variants.{Wrong, Right}
+use Rattle.stream.specs.Header.{headerOf}
 
--- a kind is a table's, or 9, or 10
-abbrev pub Kind : ℕ → Type 0
-Kind k = (k < 9) ⊎ ((k ≡ 9) ⊎ (k ≡ 10))
+-- a block of n words for a table that had so many entries: whole entries, and the table has room for them
+pub record Passes (t : Table) (n had : ℕ) : Type 0 where
+  pub whole : n % sizeOf t ≡ 0
+  pub fits : had + n / sizeOf t ≤ mostOf t
 
-chosen : (f : ℕ) (b t : Bool) → ltb f 9 ≡ t → Kind (cond t f (cond b 9 10))
-chosen f b true e = inl (ltb-true f 9 e)
-chosen f true false e = inr (inl refl)
-chosen f false false e = inr (inr refl)
+-- the table of a header, where it has one
+tableIn : Table → Header → Table
+tableIn t (Wrong n) = t
+tableIn t (Right u) = u
 
-pub kind : (id : ℕ) → Kind (kindOf id)
-unfolding kindOf
-kind id = chosen (first 9 (λ k. eqb (rowOf k .id) id)) (listed id table2) (ltb (first 9 (λ k. eqb (rowOf k .id) id)) 9) refl
+right-is : (t u : Table) → Right t ≡ Right u → t ≡ u
+unfolding tableIn
+right-is t u e = ap (tableIn t) e
 
-all-tables : every 9 (λ k. eqb (indexOf (getD tables k AddressLookup)) k) ≡ true
-unfolding every
-all-tables = refl
+not-right : (n : ℕ) (t : Table) → Wrong n ≡ Right t → ⊥
+not-right n t e = let z : _≡_ {A = ℕ} 0 1 = cc in omega arith
 
--- the table of a kind has that place in the rows
-pub table-index : (k : ℕ) → k < 9 → indexOf (getD tables k AddressLookup) ≡ k
-table-index k h = eqb-true _ k (every-at 9 k (λ x. eqb (indexOf (getD tables x AddressLookup)) x) all-tables h)
+-- a header is its table's exactly where its ID names the table and the block passes
+pub record Named (b : Block) (n : ℕ) (had : Table → ℕ) (t : Table) : Type 0 where
+  pub named : b ≡ Carried t
+  pub passes : Passes t n (had t)
 
--- a header that is not refused: its ID is a table's, its length whole entries, and the table has room for them
-pub record Right (kind n had : ℕ) : Type 0 where
-  pub known : kind < 9
-  pub whole : n % sizeOf kind ≡ 0
-  pub fits : had + n / sizeOf kind ≤ mostOf kind
-
-none-first : (b : Bool) (x y : ℕ) → cond b (suc x) y ≡ 0 → b ≡ false
-none-first true x y e = absurd (suc-ne-zero x e)
-none-first false x y e = refl
-
-none-rest : (b : Bool) (x y : ℕ) → cond b (suc x) y ≡ 0 → y ≡ 0
-none-rest true x y e = absurd (suc-ne-zero x e)
-none-rest false x y e = e
-
-pub right : (k n had : ℕ) → Kind k → wrong k n had ≡ 0 → Right k n had
-right k n had c e = ⊎-elim (λ h. go h) (λ d. ⊎-elim (λ q. absurd (suc-ne-zero 3 (subst (λ (x : ℕ). wrong x n had ≡ 0) q e))) (λ q. absurd (suc-ne-zero 2 (subst (λ (x : ℕ). wrong x n had ≡ 0) q e))) d) c
+pub right : (b : Block) (n : ℕ) (had : Table → ℕ) (t : Table) → headerOf b n had ≡ Right t → Named b n had t
+right Unknown n had t e = absurd (not-right 3 t e)
+right NotCarried n had t e = absurd (not-right 4 t e)
+right (Carried u) n had t e = go (not (eqb (n % sizeOf u) 0)) (ltb (mostOf u) (had u + n / sizeOf u)) refl refl e
   where
-    go : k < 9 → Right k n had
-    go h =
-        let e1 = none-rest (eqb k 10) 2 _ e in
-        let e2 = none-rest (eqb k 9) 3 _ e1 in
-        let e3 = none-rest (not (eqb (n % sizeOf k) 0)) 4 _ e2 in
-        record {
-          known = h;
-          whole = eqb-true _ 0 (not-false _ (none-first (not (eqb (n % sizeOf k) 0)) 4 _ e2));
-          fits = ltb-false (mostOf k) (had + n / sizeOf k) (none-first (ltb (mostOf k) (had + n / sizeOf k)) 5 0 e3);
-        }
+    go : (x y : Bool) → not (eqb (n % sizeOf u) 0) ≡ x → ltb (mostOf u) (had u + n / sizeOf u) ≡ y → cond x (Wrong 5) (cond y (Wrong 6) (Right u)) ≡ Right t
+        → Named (Carried u) n had t
+    go true y p q e = absurd (not-right 5 t e)
+    go false true p q e = absurd (not-right 6 t e)
+    go false false p q e =
+        subst (λ (v : Table). Named (Carried u) n had v) (right-is u t e)
+        (record { named = refl; passes = record { whole = eqb-true _ 0 (not-false _ p); fits = ltb-false _ _ q } })
 
--- the test asks for the entries that are there only of a table that is carried
-pub same-wrong : (k n a b : ℕ) → Kind k → (k < 9 → a ≡ b) → wrong k n a ≡ wrong k n b
-same-wrong k n a b c e =
-    ⊎-elim (λ h. ap (λ (x : ℕ). wrong k n x) (e h))
-    (λ d. ⊎-elim (λ q. at 9 q refl) (λ q. at 10 q refl) d) c
-  where
-    at : (v : ℕ) → k ≡ v → wrong v n a ≡ wrong v n b → wrong k n a ≡ wrong k n b
-    at v q p = subst (λ (x : ℕ). wrong x n a ≡ wrong x n b) (sym q) p
+pub not-wrong : (t : Table) (n : ℕ) (had : Table → ℕ) → Passes t n (had t) → headerOf (Carried t) n had ≡ Right t
+not-wrong t n had ok =
+    ap (λ (x : Bool). cond x (Wrong 5) (cond (ltb (mostOf t) (had t + n / sizeOf t)) (Wrong 6) (Right t))) (ap not (eq-eqb (n % sizeOf t) 0 (ok .whole)))
+    ∙ ap (λ (x : Bool). cond x (Wrong 6) (Right t)) (le-ltb (mostOf t) (had t + n / sizeOf t) (ok .fits))
+
+-- the tests ask only how many entries the tables had
+pub same-header : (b : Block) (n : ℕ) (f g : Table → ℕ) → ((t : Table) → f t ≡ g t) → headerOf b n f ≡ headerOf b n g
+same-header Unknown n f g same = refl
+same-header NotCarried n f g same = refl
+same-header (Carried t) n f g same = ap (λ (x : ℕ). cond (not (eqb (n % sizeOf t) 0)) (Wrong 5) (cond (ltb (mostOf t) (x + n / sizeOf t)) (Wrong 6) (Right t))) (same t)
 
 -- a length of whole entries
 pub whole-entries : (n s : ℕ) → n % s ≡ 0 → n ≡ n / s * s
 whole-entries n s e = sym (ap (λ (x : ℕ). n / s * s + x) (sym e) ∙ div-add-mod' n s) ∙ add-zero _
 
 -- the table has room for what it had and the block's words
-pub right-room : (k n had : ℕ) → Right k n had → had * sizeOf k + n ≤ mostOf k * sizeOf k
-right-room k n had ok =
-    subst (λ (x : ℕ). had * sizeOf k + x ≤ mostOf k * sizeOf k) (sym (whole-entries n (sizeOf k) (ok .whole)))
-    (subst (λ (x : ℕ). x ≤ mostOf k * sizeOf k) (add-mul had (n / sizeOf k) (sizeOf k)) (mul-le-mul-right (sizeOf k) (ok .fits)))
+pub passes-room : (t : Table) (n had : ℕ) → Passes t n had → had * sizeOf t + n ≤ mostOf t * sizeOf t
+passes-room t n had ok =
+    subst (λ (x : ℕ). had * sizeOf t + x ≤ mostOf t * sizeOf t) (sym (whole-entries n (sizeOf t) (ok .whole)))
+    (subst (λ (x : ℕ). x ≤ mostOf t * sizeOf t) (add-mul had (n / sizeOf t) (sizeOf t)) (mul-le-mul-right (sizeOf t) (ok .fits)))

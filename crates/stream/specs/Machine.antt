@@ -1,18 +1,20 @@
 -- The machine's form: one word at a time on a load state and a buffer, total on any of both. A write is a run of it between document 01's tests.
 use mathlib.Core.Bool.{Bool, true, false, cond, not}
-use mathlib.Core.List.{List, [], _∷_, _++_}
-use Prim.Native.Nat.{ℕ, zero, suc, _+_, _-_, _*_, _/_}
+use mathlib.Core.List.{List, [], _∷_}
+use Prim.Native.Nat.{ℕ, _+_, _-_, _*_, _/_}
 use lib.Dec.{ltb, eqb}
-use lib.ListN.{length, getD, set, drop, replicate}
+use lib.ListN.{length, set}
 use Rattle.crc.specs.Crc.{wordIn, start, finished, checksum}
-use Rattle.tables.specs.Rows.{sizeOf, mostOf, baseOf}
-use Rattle.layout.specs.Layout.{imageWords, imageIn, countOf, countAt, markAt}
-use Rattle.layout.specs.Loaded.{tooShort, overLimit}
-use Rattle.tables.specs.Tables.{indexOf, kindOf, tables}
-use Rattle.tables.specs.declared.Table.{Table}
-use Rattle.tables.specs.declared.Table.the-variants.{AddressLookup}
+use Rattle.image.specs.Rows.{sizeOf, mostOf, startOf}
+use Rattle.image.specs.Blocks.{blockOf}
+use Rattle.image.specs.Layout.{imageIn, countOf, cleared, counted, marked}
+use Rattle.image.specs.Loaded.{tooShort, overLimit}
+use Rattle.image.specs.declared.tables.Table.{Table}
+use Rattle.image.specs.declared.tables.Table.the-variants.{AddressLookup}
 use Rattle.rules.specs.Rules.{ruled}
-use Rattle.stream.specs.Header.{device, idOf, lengthOf, wrong}
+use Rattle.stream.specs.Header.{device, idOf, lengthOf, headerOf}
+use Rattle.stream.specs.declared.Header.{Header}
+use Rattle.stream.specs.declared.Header.the-variants.{Wrong, Right}
 use Rattle.stream.specs.Paper.{numbered}
 use Rattle.stream.specs.declared.Answer.{Answer}
 use Rattle.stream.specs.declared.Answer.the-variants.{More, Refused}
@@ -54,39 +56,37 @@ told n = state (Told n) AddressLookup 0 0 0 0 0 0
 
 -- ---- the buffer
 
--- the image zero, the buffer's rest kept
-unfoldable pub cleared : List ℕ → List ℕ
-cleared buffer = replicate imageWords 0 ++ drop imageWords buffer
-
 -- "refusals 1 to 8, 10 and of a loading rule leave the image zero"
 abbrev pub refuse : List ℕ → ℕ → Machine
 refuse buffer n = at (told n) (cleared buffer)
 
--- how many entries of table k the buffer's image has
-abbrev pub hadIn : List ℕ → ℕ → ℕ
-hadIn buffer k = countOf (imageIn buffer) k
+-- how many entries of a table the buffer's image has
+abbrev pub hadIn : List ℕ → Table → ℕ
+hadIn buffer t = countOf (imageIn buffer) t
 
 -- where the next word of a block goes
-abbrev pub placeIn : List ℕ → ℕ → ℕ → ℕ
-placeIn buffer k placed = baseOf k + hadIn buffer k * sizeOf k + placed
+abbrev pub placeIn : List ℕ → Table → ℕ → ℕ
+placeIn buffer t placed = startOf t + hadIn buffer t * sizeOf t + placed
 
 -- ---- one word
 
 -- the end block has passed: the image is marked and the rules are run
 abbrev pub finish : List ℕ → Machine
 finish buffer =
-    cond (eqb (ruled (imageIn (set buffer markAt 1))) 0) (at (told 0) (set buffer markAt 1)) (refuse buffer (ruled (imageIn (set buffer markAt 1))))
+    cond (eqb (ruled (imageIn (marked buffer))) 0) (at (told 0) (marked buffer)) (refuse buffer (ruled (imageIn (marked buffer))))
 
 -- a block's third word where its length is 0: the global checksum
 abbrev pub endedBy : ℕ → List ℕ → ℕ → Machine
 endedBy s buffer w = cond (not (eqb w (finished s))) (refuse buffer 8) (finish buffer)
 
--- a header whose checksum is right: 3 to 6, or its n data words are due, with the whole stream's register at s
+-- a header's refusal, or its n data words are due, with the whole stream's register at s
+abbrev pub begins : Header → ℕ → ℕ → List ℕ → Machine
+begins (Wrong number) s n buffer = refuse buffer number
+begins (Right t) s n buffer = at (filling t 0 n s start) buffer
+
+-- a header whose checksum is right: 3 to 6, or its data follow
 abbrev pub begunBy : ℕ → ℕ → ℕ → List ℕ → Machine
-begunBy s h0 n buffer =
-    cond (not (eqb (wrong (kindOf (idOf h0)) n (hadIn buffer (kindOf (idOf h0)))) 0))
-    (refuse buffer (wrong (kindOf (idOf h0)) n (hadIn buffer (kindOf (idOf h0)))))
-    (at (filling (getD tables (kindOf (idOf h0)) AddressLookup) 0 n s start) buffer)
+begunBy s h0 n buffer = begins (headerOf (blockOf (idOf h0)) n (hadIn buffer)) s n buffer
 
 -- a block's third word
 abbrev pub summed : ℕ → ℕ → ℕ → List ℕ → ℕ → Machine
@@ -99,8 +99,8 @@ abbrev pub filled : Table → ℕ → ℕ → ℕ → ℕ → List ℕ → ℕ �
 filled t placed due s b buffer w =
     cond (eqb due 0)
     (cond (not (eqb w (finished b))) (refuse buffer 7)
-    (at (idle (wordIn s w)) (set buffer (countAt (indexOf t)) (hadIn buffer (indexOf t) + placed / sizeOf (indexOf t)))))
-    (at (filling t (placed + 1) (due - 1) (wordIn s w) (wordIn b w)) (set buffer (placeIn buffer (indexOf t) placed) w))
+    (at (idle (wordIn s w)) (counted buffer t (hadIn buffer t + placed / sizeOf t))))
+    (at (filling t (placed + 1) (due - 1) (wordIn s w) (wordIn b w)) (set buffer (placeIn buffer t placed) w))
 
 -- word 0
 abbrev pub startedBy : List ℕ → ℕ → Machine
@@ -143,15 +143,15 @@ begun Data = true
 begun (Told n) = true
 
 -- "more words due than the block's table has room for"
-abbrev pub beyond : List ℕ → ℕ → ℕ → ℕ → Bool
-beyond image k placed due = ltb (mostOf k * sizeOf k) (countOf image k * sizeOf k + placed + due)
+abbrev pub beyond : List ℕ → Table → ℕ → ℕ → Bool
+beyond image t placed due = ltb (mostOf t * sizeOf t) (countOf image t * sizeOf t + placed + due)
 
 abbrev pub overdueIn : Phase → Load → List ℕ → Bool
 overdueIn Device l image = false
 overdueIn Id l image = false
 overdueIn Length l image = false
 overdueIn Sum l image = false
-overdueIn Data l image = beyond image (indexOf (l .table)) (l .placed) (l .due)
+overdueIn Data l image = beyond image (l .table) (l .placed) (l .due)
 overdueIn (Told n) l image = false
 
 -- 30 for "a write to a load already begun": "the image or load state holds a table count above its limit, or more words due than ..."

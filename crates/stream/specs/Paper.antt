@@ -1,18 +1,21 @@
 -- The paper's form (document 01, "The stream" and "Numbers for a refused load"): a stream is walked block by block, and gives each table's list of words.
-use mathlib.Core.Bool.{Bool, cond, not}
+use mathlib.Core.Bool.{cond, not}
 use mathlib.Core.List.{List, [], _∷_, _++_}
 use Prim.Native.Nat.{ℕ, zero, suc, _+_, _*_, _/_, _%_}
 use lib.Dec.{eqb}
-use lib.ListN.{length, getD, take, drop, set, replicate}
+use lib.ListN.{length, take, drop, set, replicate}
 use Rattle.crc.specs.Crc.{checksum}
-use Rattle.tables.specs.Rows.{sizeOf}
-use Rattle.layout.specs.Layout.{imageWords, imageOf}
-use Rattle.tables.specs.Tables.{kindOf}
+use Rattle.image.specs.Rows.{indexOf, tableCount, sizeOf}
+use Rattle.image.specs.Blocks.{blockOf}
+use Rattle.image.specs.Layout.{imageWords, listOf, imageOf}
+use Rattle.image.specs.declared.tables.Table.{Table}
 use Rattle.rules.specs.Rules.{ruled}
-use Rattle.layout.specs.Loaded.{tooShort}
+use Rattle.image.specs.Loaded.{tooShort}
 use Rattle.stream.specs.declared.Answer.{Answer}
 use Rattle.stream.specs.declared.Answer.the-variants.{Loaded, Refused}
-use Rattle.stream.specs.Header.{device, idOf, lengthOf, wrong}
+use Rattle.stream.specs.Header.{device, idOf, lengthOf, headerOf}
+use Rattle.stream.specs.declared.Header.{Header}
+use Rattle.stream.specs.declared.Header.the-variants.{Wrong, Right}
 
 -- what the framing rules make of a stream: refused with a number, cut before its end block is complete, or passed with each table's words
 pub data Framed : Type 0 where
@@ -20,17 +23,22 @@ pub data Framed : Type 0 where
   cut : Framed
   passed : List (List ℕ) → Framed
 
--- no table has arrived: nine lists with nothing in them
+-- no table has arrived: a list for each with nothing in it
 abbrev pub none : List (List ℕ)
-none = replicate 9 []
+none = replicate tableCount []
 
 -- "a table may come in several blocks, whose entries follow on"
-abbrev pub put : List (List ℕ) → ℕ → List ℕ → List (List ℕ)
-put lists k words = set lists k (getD lists k [] ++ words)
+abbrev pub put : List (List ℕ) → Table → List ℕ → List (List ℕ)
+put lists t words = set lists (indexOf t) (listOf lists t ++ words)
 
--- the entries that have come for table k
-abbrev pub had : List (List ℕ) → ℕ → ℕ
-had lists k = length (getD lists k []) / sizeOf k
+-- the entries that have come for a table
+abbrev pub had : List (List ℕ) → Table → ℕ
+had lists t = length (listOf lists t) / sizeOf t
+
+-- a header's refusal, or what follows for its table
+abbrev pub headedBy : Header → (Table → Framed) → Framed
+headedBy (Wrong n) next = refused n
+headedBy (Right t) next = next t
 
 -- a block's data, then "7 after the data", then what follows
 abbrev pub checked : List ℕ → List ℕ → (ℕ → List ℕ → Framed) → Framed
@@ -48,12 +56,9 @@ blocks (suc turns) before lists (h0 ∷ h1 ∷ []) = cut
 blocks (suc turns) before lists (h0 ∷ h1 ∷ h2 ∷ rest) =
     cond (eqb (lengthOf h1) 0) (cond (not (eqb h2 (checksum (before ++ (h0 ∷ h1 ∷ []))))) (refused 8) (passed lists))
     (cond (not (eqb h2 (checksum (h0 ∷ h1 ∷ [])))) (refused 2)
-    (cond (not (eqb (wrong (kindOf (idOf h0)) (lengthOf h1) (had lists (kindOf (idOf h0)))) 0))
-    (refused (wrong (kindOf (idOf h0)) (lengthOf h1) (had lists (kindOf (idOf h0)))))
-    (checked (take (lengthOf h1) rest) (drop (lengthOf h1) rest)
-    (λ sum after. blocks turns (before ++ (h0 ∷ h1 ∷ h2 ∷ (take (lengthOf h1) rest ++ (sum ∷ []))))
-    (put lists (kindOf (idOf h0)) (take (lengthOf h1) rest))
-    after))))
+    (headedBy (headerOf (blockOf (idOf h0)) (lengthOf h1) (had lists))
+    (λ t. checked (take (lengthOf h1) rest) (drop (lengthOf h1) rest)
+    (λ sum after. blocks turns (before ++ (h0 ∷ h1 ∷ h2 ∷ (take (lengthOf h1) rest ++ (sum ∷ [])))) (put lists t (take (lengthOf h1) rest)) after))))
 
 -- "1: word 0 differs"; then the blocks
 unfoldable pub framed : List ℕ → Framed

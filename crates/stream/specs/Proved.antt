@@ -1,20 +1,21 @@
 -- Rows (c), (d) and (e) of document 01's proved table: the length of a block of 07, with no entry there yet.
 use mathlib.Core.Path.{_≡_, refl}
-use Rattle.tables.specs.Tables.{kindOf}
-use Rattle.laws.specs.Scan.{first}
-use Rattle.stream.specs.Header.{wrong}
+use Rattle.image.specs.Blocks.{blockOf}
+use Rattle.image.specs.declared.tables.Table.the-variants.{VlanLookup}
+use Rattle.stream.specs.declared.Header.the-variants.{Wrong, Right}
+use Rattle.stream.specs.Header.{headerOf}
 
 -- (c) length 3: 5
-pub row-c : wrong (kindOf 0x07) 3 0 ≡ 5
-unfolding kindOf first
+pub row-c : headerOf (blockOf 0x07) 3 (λ t. 0) ≡ Wrong 5
+unfolding blockOf
 row-c = refl
 
 -- (d) 8192: fits
-pub row-d : wrong (kindOf 0x07) 8192 0 ≡ 0
-unfolding kindOf first
+pub row-d : headerOf (blockOf 0x07) 8192 (λ t. 0) ≡ Right VlanLookup
+unfolding blockOf
 row-d = refl
 
 -- (e) 8194: 6
-pub row-e : wrong (kindOf 0x07) 8194 0 ≡ 6
-unfolding kindOf first
+pub row-e : headerOf (blockOf 0x07) 8194 (λ t. 0) ≡ Wrong 6
+unfolding blockOf
 row-e = refl

@@ -2,7 +2,7 @@
 pub mod bytes;
 pub mod states;
 
-use tables::Table;
+use image::tables::Table;
 
 // What a write or a whole load answers. Its number in document 01 is told by `numbered` in specs/.
 pub enum Answer {
@@ -20,6 +20,12 @@ pub enum Phase {
     Sum,
     Data,
     Told(u32),
+}
+
+// What a block's header comes to: the number 3 to 6 that it is refused with, or its table.
+pub enum Header {
+    Wrong(u32),
+    Right(Table),
 }
 
 // A load under way: the phase, the block's table with the words placed and due, the two header words, and the running checksums.

@@ -2,12 +2,12 @@
 use crate::Answer;
 use crate::Load;
 use crate::Phase;
-use tables::Table;
+use image::tables::Table;
 ghost use mathlib.Core.Path.{_≡_};
 ghost use Prim.Native.Nat.{_≤_};
 ghost use lib.ListN.{length};
-ghost use Rattle.layout.specs.Layout.{imageWords};
-ghost use Rattle.stream.specs.Machine.{fresh, idle, headed, sized, filling, told, cleared, refuse, answerOf, begun};
+ghost use Rattle.image.specs.Layout.{imageWords};
+ghost use Rattle.stream.specs.Machine.{fresh, idle, headed, sized, filling, told, refuse, answerOf, begun};
 ghost use Rattle.stream.specs.Paper.{numbered};
 ghost use Rattle.stream.specs.Leaves.{Leaves};
 
@@ -145,22 +145,10 @@ pub fn is_begun(phase: Phase) -> bool
     }
 }
 
-// The image's words to zero; the buffer's rest is kept.
-pub fn clear(image: &mut [u32])
-    requires { ⌜ imageWords ≤ length (now image) ⌝ }
-    ensures { λ r. ⌜ now (image .exit) ≡ cleared (now (image .entry)) ⌝ }
-{
-    let mut i: usize = 0;
-    while i < 11456 {
-        image[i] = 0;
-        i += 1;
-    }
-}
-
 pub fn refuse(image: &mut [u32], n: u32) -> Load
     requires { ⌜ imageWords ≤ length (now image) ⌝ }
     ensures { λ r. ⌜ Leaves (refuse (now (image .entry)) n) r (now (image .exit)) ⌝ }
 {
-    clear(image);
+    image::clear(image);
     told(n)
 }

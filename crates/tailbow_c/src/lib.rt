@@ -17,7 +17,7 @@ pub extern "C" fn tailbow_fresh_load(load: &mut [u64; 6])
     flat_numbers::fresh_load(load);
 }
 
-// Words for a load. The buffer's first 11,456 words are the image.
+// Words for a load. The buffer's first words are the image.
 #[no_mangle]
 pub extern "C" fn tailbow_write(image: &mut [u32], load: &mut [u64; 6], words: &[u32]) -> u32
     ensures { λ r. ⌜ WritesFlat (now (load .entry)) (now (image .entry)) (now (words .entry)) r (now (load .exit)) (now (image .exit)) ⌝ }

@@ -1,11 +1,11 @@
 -- What is known of a share: with no drops it is +0, and it is never a NaN.
 use mathlib.Core.Path.{_≡_, refl, sym, _∙_, ap, subst}
-use mathlib.Core.Bool.{Bool, true, false, cond, not, true≢false}
+use mathlib.Core.Bool.{Bool, true, false, cond, true≢false}
 use Prim.Native.Nat.{ℕ, zero, suc, _+_, _*_, _^_, _<_, _≤_}
-use native.Mathlib.Nat.{mul-one, one-mul, zero-mul, mul-pos}
+use native.Mathlib.Nat.{zero-mul, mul-pos}
 use native.Mathlib.Omega.{arith}
 use lib.Dec.{T, ltb, eqb, ltb→lt, lit<}
-use lib.IntN.{ℤ, pos}
+use lib.IntN.{pos}
 use lib.Ieee.{Float, nan, inf, fin, Format, binary64, prec, emax, low, up, down, unlike, round, units, odd, size, span, climb, div, ofInt, ne, isNan, toBits}
 use lib.Count.{trailingZeros}
 use lib.Ieee.Compare.{differs-from-itself, nan-differs}
@@ -45,7 +45,7 @@ top-positive : T (positive (round binary64 false 18446744073709551616 1))
 unfolding round units odd size span climb trailingZeros
 top-positive = tt
 
-pub count-positive : (n : ℕ) → 0 < n → n < 18446744073709551616 → T (positive (ofInt binary64 (pos n)))
+count-positive : (n : ℕ) → 0 < n → n < 18446744073709551616 → T (positive (ofInt binary64 (pos n)))
 unfolding ofInt
 count-positive n h l =
     between (round binary64 false 1 1) (round binary64 false n 1) (round binary64 false 18446744073709551616 1) one-positive top-positive

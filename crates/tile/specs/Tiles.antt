@@ -6,8 +6,8 @@ use Prim.Native.Nat.{ℕ}
 use lib.Dec.{ltb, eqb}
 use lib.IntN.{pos}
 use lib.Ieee.{Float, binary64, div, ofInt, isNan, toBits}
-use Rattle.layout.specs.Layout.{imageIn}
-use Rattle.layout.specs.Loaded.{tooShort, notLoaded}
+use Rattle.image.specs.Layout.{imageIn}
+use Rattle.image.specs.Loaded.{tooShort, notLoaded}
 use Rattle.ledger.specs.Row.{frames, drops, octets, dropped, cell}
 use Rattle.ledger.specs.Range.{outOfRange}
 use Rattle.tile.specs.declared.shares.Tile.{Tile}

@@ -14,13 +14,13 @@ pub mod shares;
 pub fn tile(image: &[u32], row: &[u64; CELLS], port: usize) -> Asked
     ensures { λ r. ⌜ Tiled (now (image .entry)) (now (row .entry)) port r ⌝ }
 {
-    if layout::too_short(image) {
+    if image::too_short(image) {
         return Asked::Refused(31);
     }
     if 4 < port {
         return Asked::Refused(33);
     }
-    if layout::not_loaded(image) {
+    if image::not_loaded(image) {
         return Asked::Shown(Tile::NotLoaded);
     }
     if ledger::range::out_of_range(image, row) {

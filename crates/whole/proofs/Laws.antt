@@ -6,9 +6,10 @@ use Prim.Native.Nat.{ℕ, suc, _+_, _-_, _*_, _%_, _<_, _≤_}
 use native.Mathlib.Omega.{arith}
 use lib.ListN.{length, set, take, drop, length-drop}
 use lib.Seq.{drop-drop, take-suc-set}
+use Rattle.image.specs.Layout.{cleared}
 use Rattle.laws.specs.Chain.{hit, pass, hit-ne, pass-ne}
-use Rattle.layout.specs.Loaded.{tooShort}
-use Rattle.stream.specs.Machine.{Machine, at, cleared, run, fresh}
+use Rattle.image.specs.Loaded.{tooShort}
+use Rattle.stream.specs.Machine.{Machine, at, run, fresh}
 use Rattle.stream.specs.Paper.{Whole, asFound, loadedWords, wordsOf, loadedBytes}
 use Rattle.stream.specs.Bytes.{wordAt, words-from, words-none, words-split}
 use Rattle.stream.specs.Ends.{settledIn, settled, whole}

@@ -9,10 +9,10 @@ ghost use mathlib.Core.Path.{_≡_};
 ghost use Prim.Native.Nat.{_+_, _<_, _≤_};
 ghost use lib.ListN.{length};
 ghost use Rattle.crc_long.specs.Turn.{AreTables};
-ghost use Rattle.layout.specs.Layout.{imageWords};
+ghost use Rattle.image.specs.Layout.{imageWords, cleared};
 ghost use Rattle.stream.specs.Ends.{cutShort, settled};
 ghost use Rattle.stream.specs.Fine.{Roomy, Fine};
-ghost use Rattle.stream.specs.Machine.{at, fresh, cleared, run};
+ghost use Rattle.stream.specs.Machine.{at, fresh, run};
 ghost use Rattle.stream.specs.Paper.{loadedWords, wordsOf, loadedBytes};
 ghost use Rattle.stream.specs.declared.Phase.the-variants.{Data};
 ghost use Rattle.stream.specs.Leaves.{Leaves, Ends};
@@ -103,7 +103,7 @@ fn cut_short(image: &mut [u32]) -> Answer
     requires { ⌜ imageWords ≤ length (now image) ⌝ }
     ensures { λ r. ⌜ Ends (cutShort (now (image .entry))) r (now (image .exit)) ⌝ }
 {
-    states::clear(image);
+    image::clear(image);
     Answer::Refused(10)
 }
 
@@ -128,7 +128,7 @@ fn fresh_long(image: &mut [u32], words: &[u32]) -> Load
     requires { ⌜ imageWords ≤ length (now image) ⌝ }
     ensures { λ r. ⌜ Leaves (run (at fresh (cleared (now (image .entry)))) (now (words .entry))) r (now (image .exit)) ⌝ }
 {
-    states::clear(image);
+    image::clear(image);
     run_long(
         image,
         states::fresh(),
@@ -145,7 +145,7 @@ fn fresh_short(image: &mut [u32], words: &[u32]) -> Load
     requires { ⌜ imageWords ≤ length (now image) ⌝ }
     ensures { λ r. ⌜ Leaves (run (at fresh (cleared (now (image .entry)))) (now (words .entry))) r (now (image .exit)) ⌝ }
 {
-    states::clear(image);
+    image::clear(image);
     quick::run(image, states::fresh(), words)
 }
 
@@ -164,7 +164,7 @@ fn fresh_run(image: &mut [u32], words: &[u32]) -> Load
 pub fn load_words(image: &mut [u32], words: &[u32]) -> Answer
     ensures { λ r. ⌜ Ends (loadedWords (now (image .entry)) (now (words .entry))) r (now (image .exit)) ⌝ }
 {
-    if layout::too_short(image) {
+    if image::too_short(image) {
         return Answer::Refused(31);
     }
     let end = fresh_run(image, words);
@@ -190,7 +190,7 @@ fn bytes_run(image: &mut [u32], bytes: &[u8]) -> Load
     requires { ⌜ imageWords ≤ length (now image) ⌝ }
     ensures { λ r. ⌜ Leaves (run (at fresh (cleared (now (image .entry)))) (wordsOf (now (bytes .entry)))) r (now (image .exit)) ⌝ }
 {
-    states::clear(image);
+    image::clear(image);
     let mut state = states::fresh();
     let mut i: usize = 0;
     while 1024 <= bytes.len() - i {
@@ -204,7 +204,7 @@ fn bytes_run(image: &mut [u32], bytes: &[u8]) -> Load
 pub fn load_bytes(image: &mut [u32], bytes: &[u8]) -> Answer
     ensures { λ r. ⌜ Ends (loadedBytes (now (image .entry)) (now (bytes .entry))) r (now (image .exit)) ⌝ }
 {
-    if layout::too_short(image) {
+    if image::too_short(image) {
         return Answer::Refused(31);
     }
     if bytes.len() % 4 != 0 {

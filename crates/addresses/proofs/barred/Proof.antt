@@ -3,11 +3,11 @@ use mathlib.Core.Path.{_≡_, sym, _∙_, ap}
 use mathlib.Core.Bool.{false}
 use Prim.Native.Nat.{ℕ, _+_, _-_, _≤_}
 use native.Mathlib.Omega.{arith}
-use lib.Dec.{lit<}
 use borrow.Author.Needs.{needs}
 use denote.Ref.{now}
 use Rattle.laws.specs.Scan.{some-below, some-none}
-use Rattle.layout.specs.Layout.{imageIn, countOf}
+use Rattle.image.specs.Layout.{imageIn, countOf}
+use Rattle.image.specs.declared.tables.Table.the-variants.{AddressLookup}
 use Rattle.addresses.specs.Address.{bars}
 use Rattle.lookup.specs.Groups.{none-yet, none-up-to, some-rest, some-in}
 use Rattle.addresses.specs.Leading.{none-bar}
@@ -31,7 +31,7 @@ returns : tie.Need-returns Inv-loop μ-loop
 returns c =
     let l = c .before .before .before .loop in
     let a = c .before .before .before .before .before .before .before .before .before .args in
-    sym (some-in (countOf (imageIn (now (a .image))) 0) (l .i) 16 _ (omega arith) (sym (c .before .one-bars .ensures) ∙ c .if1 .taken))
+    sym (some-in (countOf (imageIn (now (a .image))) AddressLookup) (l .i) 16 _ (omega arith) (sym (c .before .one-bars .ensures) ∙ c .if1 .taken))
 
 loop-again : tie.Need-loop-again Inv-loop μ-loop
 loop-again c =
@@ -71,7 +71,7 @@ barred-spec =
     (tie.spec
     Inv-loop
     μ-loop
-    (λ c κs. (c .before .pre .0 .0, lit< tt))
+    (λ c κs. c .before .pre .0 .0)
     (λ c κs. let s = c .before .before .pre .0 in (s .0, s .2))
     (λ c κs. tt)
     (λ c κs. let s = c .before .before .before .before .pre .0 in ((s .0, s .1, c .key-of .ensures .1), (c .before .before .count .ensures .0, least _)))

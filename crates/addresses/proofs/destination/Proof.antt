@@ -4,11 +4,11 @@ use Prim.Native.Nat.{ℕ, _+_, _-_, _≤_}
 use native.Mathlib.Nat.{le-of-eq, mod-lt}
 use native.Mathlib.Omega.{arith}
 use lib.Pow.{pow-pos}
-use lib.Dec.{lit<}
 use borrow.Author.Needs.{needs}
 use denote.Ref.{now}
-use Rattle.layout.specs.Layout.{imageIn, countOf}
-use Rattle.image.specs.Fields.{index}
+use Rattle.image.specs.Layout.{imageIn, countOf}
+use Rattle.image.specs.declared.tables.Table.the-variants.{AddressLookup}
+use Rattle.fields.specs.Fields.{index}
 use Rattle.addresses.specs.Address.{matches}
 use Rattle.addresses.specs.Least.{Leads, leads-none, leads-up-to, leads-end, leads-within}
 use Rattle.addresses.specs.Leading.{Leading, none-match}
@@ -26,7 +26,7 @@ loop-holds c =
     let a = c .before .before .before .before .before .args in
     let t = c .next-like .ensures in
     let image = imageIn (now (a .image)) in
-    (t .1, leads-up-to 0 (c .next-like .result) (t .0) (λ j. mod-lt _ (pow-pos 10)) (subst (λ (n : ℕ). Leads (countOf image 0) 1024 (matches image (a .vlan) (a .mac)) (index image) 0 n 1024) (sym (c .before .before .before .count .ensures .0)) (leads-none _ _ _ _)) (none-match image (a .vlan) (a .mac) _ 0 _ (c .before .key-of .ensures .0) (t .2)))
+    (t .1, leads-up-to 0 (c .next-like .result) (t .0) (λ j. mod-lt _ (pow-pos 10)) (subst (λ (n : ℕ). Leads (countOf image AddressLookup) 1024 (matches image (a .vlan) (a .mac)) (index image) 0 n 1024) (sym (c .before .before .before .count .ensures .0)) (leads-none _ _ _ _)) (none-match image (a .vlan) (a .mac) _ 0 _ (c .before .key-of .ensures .0) (t .2)))
 
 loop-again : tie.Need-loop-again Inv-loop μ-loop
 loop-again c =
@@ -64,7 +64,7 @@ destination-spec =
     (tie.spec
     Inv-loop
     μ-loop
-    (λ c κs. (c .before .pre .0, lit< tt))
+    (λ c κs. c .before .pre .0)
     (λ c κs. let s = c .before .before .pre in (s .0, s .2))
     (λ c κs. tt)
     (λ c κs. let s = c .before .before .before .before .pre in ((s .0, s .1, c .key-of .ensures .1), (c .before .before .count .ensures .0, least _)))

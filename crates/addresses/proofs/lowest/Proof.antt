@@ -1,13 +1,15 @@
 -- `addresses::lowest`: the loop holds the lowest match so far and its INDEX.
 use mathlib.Core.Path.{_≡_, sym, ap}
 use mathlib.Core.Logic.{⊎-elim}
-use Prim.Native.Nat.{ℕ, _+_, _-_, _<_, _≤_}
+use Prim.Native.Nat.{ℕ, _+_, _-_, _≤_}
 use native.Mathlib.Omega.{arith}
 use native.Mathlib.Nat.{mod-lt, add-zero, le-antisymm}
 use lib.Pow.{pow-pos}
 use borrow.Author.Needs.{needs}
-use Rattle.layout.specs.Layout.{imageIn, countOf}
-use Rattle.image.specs.Fields.{index}
+use Rattle.laws.specs.Scan.{part-inside}
+use Rattle.image.specs.Layout.{imageIn, countOf}
+use Rattle.image.specs.declared.tables.Table.the-variants.{AddressLookup}
+use Rattle.fields.specs.Fields.{index}
 use Rattle.addresses.specs.Address.{matches}
 use Rattle.addresses.specs.Least.{Leads, leads-at, leads-taken, leads-kept}
 use Rattle.addresses.proofs.lowest.Statement.{statement}
@@ -15,7 +17,7 @@ use Rattle.addresses.proofs.lowest.Tie as tie
 
 abbrev Inv-loop : tie.InvT-loop
 Inv-loop image shared vlan mac i count entry₀ low₀ k₀ entry low k =
-    (k ≤ count) × Leads (countOf (imageIn image) 0) 1024 (matches (imageIn image) vlan mac) (index (imageIn image)) (i + k) entry low
+    (k ≤ count) × Leads (countOf (imageIn image) AddressLookup) 1024 (matches (imageIn image) vlan mac) (index (imageIn image)) (i + k) entry low
 
 abbrev μ-loop : tie.MeasureT-loop
 μ-loop image shared vlan mac i count entry₀ low₀ k₀ entry low k = count - k
@@ -40,10 +42,6 @@ returns c =
     let a = c .before .before .before .args in
     leads-at (ap (λ (n : ℕ). a .i + n) (le-antisymm (l .inv .0) (c .loop-test .left))) (l .inv .1)
 
--- an entry of the part is one of the table
-inside : (i k m n : ℕ) → i + m ≤ n → k < m → i + k < n
-inside i k m n h l = omega arith
-
 pub lowest-spec : {M : Type 1} → statement M
 lowest-spec =
     tie.close
@@ -54,8 +52,8 @@ lowest-spec =
     (λ c. search needs)
     (λ c κs.
     let s = c .before .before .before .pre in
-    (record { whole = s .0 .0; within = s .0 .1; there = inside _ _ _ _ (s .0 .2) (c .loop-test .taken) }, s .1 .0))
-    (λ c κs. let s = c .before .before .before .before .before .pre .0 in record { whole = s .0; within = s .1; there = inside _ _ _ _ (s .2) (c .before .before .loop-test .taken) })
+    (record { whole = s .0 .0; within = s .0 .1; there = part-inside _ _ _ _ (s .0 .2) (c .loop-test .taken) }, s .1 .0))
+    (λ c κs. let s = c .before .before .before .before .before .pre .0 in record { whole = s .0; within = s .1; there = part-inside _ _ _ _ (s .2) (c .before .before .loop-test .taken) })
     (λ c. search needs)
     (λ c. search needs)
     loop-again

@@ -1,13 +1,13 @@
 -- `addresses::none_like`: the top bit is set as long as none of the entries is like the address.
 use mathlib.Core.Path.{_∙_, ap}
 use mathlib.Core.Bool.{not}
-use Prim.Native.Nat.{ℕ, _+_, _-_, _<_, _≤_, _^_}
+use Prim.Native.Nat.{ℕ, _-_, _<_, _≤_, _^_}
 use native.Mathlib.Nat.{le-antisymm, lt-trans}
 use native.Mathlib.Omega.{arith}
 use lib.Dec.{eqb}
 use borrow.Author.Needs.{needs}
-use Rattle.laws.specs.Scan.{flag}
-use Rattle.layout.specs.Layout.{imageIn}
+use Rattle.laws.specs.Scan.{flag, part-inside}
+use Rattle.image.specs.Layout.{imageIn}
 use Rattle.lookup.specs.Groups.{from, Clear, clear-none, clear-more, clear-end}
 use Rattle.addresses.specs.Address.{likeAddress}
 use Rattle.addresses.proofs.none_like.Statement.{statement}
@@ -30,10 +30,6 @@ loop-again c =
       clear-more _ (l .k) (l .all) _ (l .inv .1) (c .apart .ensures ∙ ap (λ (x : ℕ). flag (not (eqb x (c .before .before .before .before .before .args .key)))) (c .before .short .ensures .0)),
     )
 
--- an entry of the part is one of the table
-inside : (i k m n : ℕ) → i + m ≤ n → k < m → i + k < n
-inside i k m n h l = omega arith
-
 pub none-like-spec : {M : Type 1} → statement M
 none-like-spec =
     tie.close
@@ -42,7 +38,7 @@ none-like-spec =
     μ-loop
     (λ c. (search needs, clear-none _))
     (λ c. search needs)
-    (λ c κs. let s = c .before .before .before .pre in record { whole = s .0; within = s .1; there = inside _ _ _ _ (s .2) (c .loop-test .taken) })
+    (λ c κs. let s = c .before .before .before .pre in record { whole = s .0; within = s .1; there = part-inside _ _ _ _ (s .2) (c .loop-test .taken) })
     (λ c κs. (low (c .short .ensures .1), low (c .before .before .before .before .pre .3)))
     (λ c. search needs)
     (λ c. search needs)

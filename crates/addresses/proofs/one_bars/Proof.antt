@@ -1,11 +1,11 @@
 -- `addresses::one_bars`: none of the entries that the loop has passed bars the source.
 use mathlib.Core.Path.{_≡_, refl, sym, _∙_}
 use mathlib.Core.Bool.{false}
-use Prim.Native.Nat.{ℕ, _+_, _-_, _<_, _≤_}
+use Prim.Native.Nat.{_-_, _≤_}
 use native.Mathlib.Omega.{arith}
 use borrow.Author.Needs.{needs}
-use Rattle.laws.specs.Scan.{some-below, some-none, some-not, some-found, some-end}
-use Rattle.layout.specs.Layout.{imageIn}
+use Rattle.laws.specs.Scan.{some-below, some-none, some-not, some-found, some-end, part-inside}
+use Rattle.image.specs.Layout.{imageIn}
 use Rattle.addresses.specs.Address.{bars}
 use Rattle.lookup.specs.Groups.{from}
 use Rattle.addresses.proofs.one_bars.Statement.{statement}
@@ -17,10 +17,6 @@ Inv-loop image shared port vlan mac i count k₀ k = (k ≤ count) × (some-belo
 abbrev μ-loop : tie.MeasureT-loop
 μ-loop image shared port vlan mac i count k₀ k = count - k
 
--- an entry of the part is one of the table
-inside : (i k m n : ℕ) → i + m ≤ n → k < m → i + k < n
-inside i k m n h l = omega arith
-
 pub one-bars-spec : {M : Type 1} → statement M
 one-bars-spec =
     tie.close
@@ -31,7 +27,7 @@ one-bars-spec =
     (λ c. search needs)
     (λ c κs.
     let s = c .before .before .before .pre in
-    (record { whole = s .0 .0; within = s .0 .1; there = inside _ _ _ _ (s .0 .2) (c .loop-test .taken) }, s .1))
+    (record { whole = s .0 .0; within = s .0 .1; there = part-inside _ _ _ _ (s .0 .2) (c .loop-test .taken) }, s .1))
     (λ c. sym (some-found _ (c .before .before .before .loop .k) _ (c .before .before .loop-test .taken) (sym (c .before .bars .ensures) ∙ c .if1 .taken)))
     (λ c. search needs)
     (λ c. search needs)

@@ -1,7 +1,7 @@
 -- `flat_loads::place_of`: its tests in the definition's order, then the block's.
 use borrow.Author.Needs.{needs}
-use Rattle.laws.specs.Chain.{hit, pass, hit-ne, pass-ne, hit-lt, pass-lt}
-use Rattle.placing.proofs.refusal.Laws.{has-room}
+use Rattle.image.specs.Sound.{has-room}
+use Rattle.laws.specs.Chain.{hit, pass, hit-ne, pass-ne, hit-le, pass-le}
 use Rattle.flat_loads.specs.Data.{flatPlace}
 use Rattle.flat_loads.proofs.Laws.{place-by}
 use Rattle.flat_loads.proofs.place_of.Statement.{statement}
@@ -17,11 +17,11 @@ returns-2 c = search (pass, hit-ne)
 
 returns-3 : tie.Need-returns-3
 unfolding flatPlace
-returns-3 c = search (pass, pass-ne, hit-lt)
+returns-3 c = search (pass, pass-ne, hit-le)
 
 returns-4 : tie.Need-returns-4
 unfolding flatPlace
-returns-4 c = search (pass, pass-ne, pass-lt, place-by)
+returns-4 c = search (pass, pass-ne, pass-le, place-by)
 
 pub place-of-spec : {M : Type 1} → statement M
 place-of-spec =

@@ -2,7 +2,7 @@
 use mathlib.Core.Path.{sym, ap, subst, _∙_}
 use borrow.Author.Needs.{needs}
 use denote.Ref.{now}
-use Rattle.layout.specs.Layout.{imageIn}
+use Rattle.image.specs.Layout.{imageIn}
 use Rattle.plan.specs.EnterLaws.{Through, through}
 use Rattle.judge.specs.Judge.{byEntry, planFor}
 use Rattle.judge.proofs.plan_for.Statement.{statement}

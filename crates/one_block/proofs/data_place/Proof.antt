@@ -7,12 +7,10 @@ use borrow.Author.Needs.{needs}
 use borrow.Author.Tests.{ltb-false}
 use denote.Ref.{now}
 use Rattle.laws.specs.Chain.{hit, pass, pass-lt, chain}
-use Rattle.layout.specs.Layout.{imageIn}
-use Rattle.tables.specs.Rows.{sizeOf}
+use Rattle.image.specs.Layout.{entryWords, imageIn}
+use Rattle.image.specs.Rows.{sizeOf}
 use Rattle.image.specs.Sound.{within-limits}
-use Rattle.tables.specs.Tables.{indexOf}
 use Rattle.stream.specs.Machine.{beyond}
-use Rattle.stream.specs.Runs.{index-lt}
 use Rattle.one_block.specs.Data.{dataPlace}
 use Rattle.placing.proofs.refusal.Laws.{beyond-is}
 use Rattle.one_block.proofs.data_place.Statement.{statement}
@@ -33,10 +31,10 @@ returns-3 c = search (needs, chain) depth 40
 -- what `passes` says of the block
 late : (c : tie.After-passes)
     → c .passes .result
-    ≡ beyond (imageIn (now (c .before .before .before .before .before .before .before .before .args .image))) (indexOf (c .before .before .before .before .before .before .before .before .args .table)) (c .before .before .before .before .before .before .before .before .args .placed) (c .before .before .before .before .before .before .before .before .args .due)
+    ≡ beyond (imageIn (now (c .before .before .before .before .before .before .before .before .args .image))) (c .before .before .before .before .before .before .before .before .args .table) (c .before .before .before .before .before .before .before .before .args .placed) (c .before .before .before .before .before .before .before .before .args .due)
 late c =
     let a = c .before .before .before .before .before .before .before .before .args in
-    c .passes .ensures ∙ beyond-is (indexOf (a .table)) (now (a .image)) _ (a .placed) (a .due) (c .before .room-of .ensures .left)
+    c .passes .ensures ∙ beyond-is (a .table) (now (a .image)) _ (a .placed) (a .due) (c .before .room-of .ensures .left)
 
 returns-4 : tie.Need-returns-4
 unfolding dataPlace
@@ -47,7 +45,7 @@ returns-4 c =
     (hit _ _ _ _ (late (c .before)) (c .if4 .taken))))
 
 -- what is placed lies in the room
-placed-inside : (c : tie.After-struct-known) → c .before .before .before .room-of .result .place + c .before .before .before .before .before .before .before .before .before .before .args .placed ≤ 11430
+placed-inside : (c : tie.After-struct-known) → c .before .before .before .room-of .result .place + c .before .before .before .before .before .before .before .before .before .before .args .placed ≤ entryWords
 placed-inside c =
     let fits : c .before .before .before .before .before .before .before .before .before .before .args .placed + c .before .before .before .before .before .before .before .before .before .before .args .due ≤ c .before .before .before .room-of .result .left = ltb-false _ _ (sym (c .before .before .passes .ensures) ∙ c .before .if4 .left) in
     omega (arith, fits, c .before .before .before .room-of .ensures .inside)
@@ -71,7 +69,7 @@ data-place-spec =
     returns-3
     (λ c κs.
     let s = c .before .before .before .before .before .before in
-    (s .pre, mul-le-mul-right (sizeOf (indexOf (s .args .table))) (within-limits (imageIn (now (s .args .image))) (sym (c .before .over-limit .ensures) ∙ c .if3 .left) (indexOf (s .args .table)) (index-lt (s .args .table)))))
+    (s .pre, mul-le-mul-right (sizeOf (s .args .table)) (within-limits (imageIn (now (s .args .image))) (sym (c .before .over-limit .ensures) ∙ c .if3 .left) (s .args .table))))
     (λ c κs. search needs)
     returns-4
     (λ c. record { fits = omega (arith, placed-inside c) })

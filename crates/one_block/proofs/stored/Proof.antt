@@ -4,10 +4,8 @@ use native.Mathlib.Nat.{mul-comm}
 use native.Mathlib.Omega.{arith}
 use borrow.Author.Needs.{needs}
 use denote.Ref.{now}
-use Rattle.tables.specs.Rows.{sizeOf, mostOf}
-use Rattle.tables.specs.Tables.{indexOf}
-use Rattle.stream.specs.Bridge.{room-inside}
-use Rattle.stream.specs.Runs.{index-lt}
+use Rattle.image.specs.Rows.{sizeOf, mostOf}
+use Rattle.image.specs.RowLaws.{room-inside}
 use Rattle.stream.proofs.states.Laws.{so}
 use Rattle.one_block.proofs.Laws.{data-run}
 use Rattle.one_block.proofs.stored.Statement.{statement}
@@ -31,8 +29,8 @@ stored-spec =
     (λ c κs. let s = c .before .before .before in (s .pre .0 .0, omega (arith, s .pre .0 .1)))
     (λ c κs. omega arith)
     (λ c. let s = c .before .before .before .before .before .before .before .before in
-    let k = indexOf (s .args .load .table) in
-    omega (arith, s .pre .0 .1, room-inside k (index-lt (s .args .load .table)), mul-comm (mostOf k) (sizeOf k)))
+    let t = s .args .load .table in
+    omega (arith, s .pre .0 .1, room-inside t, mul-comm (mostOf t) (sizeOf t)))
     (λ c. search needs)
     (λ c κs. search needs)
     (λ c. c .before .before .before .copy .kept .0)

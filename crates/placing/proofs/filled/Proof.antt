@@ -19,16 +19,16 @@ returns c =
 
 returns-2 : tie.Need-returns-2
 returns-2 c =
-    let f = c .before .before .before .before .before .before in
+    let n = c .before .before .before .before in
+    let f = n .before .before .before .before .before in
     let a = f .before .before .before .args in
     so
-    (filled-sum (a .load .table) (a .load .placed) (a .load .due) (a .load .stream) (a .load .block) (a .w) (now (a .image)) _ _ _ _ (f .before .if1 .taken)
+    (filled-sum (a .load .table) (a .load .placed) (a .load .due) (a .load .stream) (a .load .block) (a .w) (now (a .image)) _ _ _ (f .before .if1 .taken)
     (f .finish .ensures)
-    (c .before .before .before .before .before .if2 .left)
-    (c .before .before .index-of .ensures .0)
-    (c .before .before .before .raised .ensures)
+    (n .before .before .before .before .if2 .left)
+    (n .before .before .raised .ensures)
     (c .before .word-in .ensures))
-    (record { state = c .idle .ensures; kept = refl })
+    (record { state = c .idle .ensures; kept = n .set-count .ensures })
 
 returns-3 : tie.Need-returns-3
 returns-3 c =
@@ -51,12 +51,9 @@ filled-spec =
     returns
     (λ c κs. search needs)
     (λ c κs. search needs)
-    (λ c. search needs)
-    (λ c. search needs)
-    (λ c. search needs)
     (λ c κs. search needs)
     (λ c κs. search needs)
-    (λ c. search needs)
+    (λ c. c .before .before .before .before .set-count .kept .0)
     returns-2
     (λ c κs. search needs)
     (λ c. search needs)

@@ -5,10 +5,11 @@ use mathlib.Core.List.{List}
 use Prim.Native.Nat.{ℕ, _≤_}
 use lib.ListN.{length}
 use borrow.Author.Tests.{le-ltb}
+use Rattle.image.specs.Sound.{has-room}
 use Rattle.laws.specs.Chain.{hit, pass, zero-first, zero-rest}
-use Rattle.layout.specs.Layout.{imageWords, imageIn}
-use Rattle.layout.specs.Loaded.{tooShort}
-use Rattle.stream.specs.Machine.{at, cleared, run, begun, damaged, outside, untouched, opened, Written, written, wrote, answerOf}
+use Rattle.image.specs.Layout.{imageWords, imageIn, cleared}
+use Rattle.image.specs.Loaded.{tooShort}
+use Rattle.stream.specs.Machine.{at, run, begun, damaged, outside, untouched, opened, Written, written, wrote, answerOf}
 use Rattle.stream.specs.declared.Phase.{Phase}
 use Rattle.stream.specs.declared.Phase.the-variants.{Device, Id, Length, Sum, Data, Told}
 use Rattle.stream.specs.declared.Load.{Load}
@@ -17,7 +18,6 @@ use Rattle.placing.specs.Refusal.{writeRefusal}
 use Rattle.stream.specs.declared.states.Wrote.{Wrote}
 use Rattle.stream.specs.Fine.{Fine, Roomy, undamaged-fine, cleared-fine}
 use Rattle.stream.specs.declared.Answer.the-variants.{Refused}
-use Rattle.placing.proofs.refusal.Laws.{has-room}
 
 -- ---- refused
 

@@ -1,6 +1,7 @@
 -- `plan::metered`: 7 for the meter's entry, then 8.
-use lib.Dec.{lit<}
 use mathlib.Core.Path.{refl}
+use Rattle.image.specs.Sound.{held}
+use Rattle.image.specs.declared.tables.Table.the-variants.{Policing}
 use Rattle.laws.specs.Chain.{hit-le, pass-le, hit-lt, pass-lt, of-lt, of-le, le-of, lt-of}
 use Rattle.plan.proofs.metered.Statement.{statement}
 use Rattle.plan.proofs.metered.Tie as tie
@@ -9,9 +10,9 @@ pub metered-spec : {M : Type 1} → statement M
 metered-spec =
     tie.close
     (tie.spec
-    (λ c κs. (c .before .pre .0 .within .whole, lit< tt))
+    (λ c κs. c .before .pre .0 .within .whole)
     (λ c. hit-le _ _ _ _ (of-le _ _ _ (c .before .count .ensures .0) (c .if1 .taken)))
-    (λ c κs. let s = c .before .before .before .pre in record { whole = s .0 .within .whole; within = s .0 .within .policers; there = s .1 })
+    (λ c κs. let s = c .before .before .before .pre in held _ Policing _ (s .0 .within) (s .1))
     (λ c.
     pass-le _ _ _ _ _ (lt-of _ _ _ (c .before .before .before .count .ensures .0) (c .before .before .if1 .left))
     (hit-lt _ _ _ _ (of-lt _ _ _ (c .before .maxlen .ensures .0) (c .if2 .taken))))

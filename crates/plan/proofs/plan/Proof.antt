@@ -5,7 +5,7 @@ use native.Mathlib.Omega.{arith}
 use borrow.Author.Needs.{needs}
 use lib.ListN.{length}
 use denote.Ref.{now}
-use Rattle.layout.specs.Layout.{imageIn}
+use Rattle.image.specs.Layout.{imageIn}
 use Rattle.plan.specs.Police.{policedBy, policedOf}
 use Rattle.plan.specs.Plan.{byPolicer, planOf}
 use Rattle.plan.specs.Laws.{Loaded, policed}

@@ -1,10 +1,11 @@
 -- `plan::policed_by`: 7 for entry k, then its meter's.
-use lib.Dec.{lit<}
 use mathlib.Core.Path.{ap, _∙_}
 use Prim.Native.Nat.{ℕ}
 use denote.Ref.{now}
+use Rattle.image.specs.Sound.{held}
 use Rattle.laws.specs.Chain.{hit-le, pass-le, of-le, lt-of}
-use Rattle.layout.specs.Layout.{imageIn}
+use Rattle.image.specs.Layout.{imageIn}
+use Rattle.image.specs.declared.tables.Table.the-variants.{Policing}
 use Rattle.plan.specs.Police.{meteredBy}
 use Rattle.plan.proofs.policed_by.Statement.{statement}
 use Rattle.plan.proofs.policed_by.Tie as tie
@@ -13,11 +14,11 @@ pub policed-by-spec : {M : Type 1} → statement M
 policed-by-spec =
     tie.close
     (tie.spec
-    (λ c κs. (c .before .pre .within .whole, lit< tt))
+    (λ c κs. c .before .pre .within .whole)
     (λ c. hit-le _ _ _ _ (of-le _ _ _ (c .before .count .ensures .0) (c .if1 .taken)))
     (λ c κs.
     let s = c .before .before .before .pre in
-    record { whole = s .within .whole; within = s .within .policers; there = lt-of _ _ _ (c .before .count .ensures .0) (c .if1 .left) })
+    held _ Policing _ (s .within) (lt-of _ _ _ (c .before .count .ensures .0) (c .if1 .left)))
     (λ c κs. (c .before .before .before .before .pre, lt-of _ _ _ (c .before .before .count .ensures .0) (c .before .if1 .left)))
     (λ c.
     let s = c .before .before .before .before .before .args in

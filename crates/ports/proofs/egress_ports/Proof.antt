@@ -1,8 +1,8 @@
 -- `ports::egress_ports`: a bit for each port.
-use borrow.Author.Needs.{needs}
 use mathlib.Core.Path.{_∙_}
 use lib.Dec.{lit<}
-use Rattle.ports.specs.Laws.{port-held, same-mask}
+use Rattle.image.specs.Sound.{port-held}
+use Rattle.ports.specs.Laws.{same-mask}
 use Rattle.ports.proofs.egress_ports.Statement.{statement}
 use Rattle.ports.proofs.egress_ports.Tie as tie
 

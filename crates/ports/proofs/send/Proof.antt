@@ -1,32 +1,25 @@
 -- `ports::send`: the new priority, the tags and the five queues.
 use mathlib.Core.Path.{ap, _∙_}
-use mathlib.Core.List.{List}
 use Prim.Native.Nat.{ℕ, _<_}
-use native.Mathlib.Omega.{arith}
 use borrow.Author.Needs.{needs}
 use lib.Bits.{bitAnd}
 use lib.Dec.{lit<}
 use denote.Ref.{now}
-use Rattle.layout.specs.Layout.{imageIn, Held}
-use Rattle.image.specs.Sound.{Sound}
+use Rattle.image.specs.Layout.{imageIn}
+use Rattle.image.specs.Sound.{held, domain-held}
+use Rattle.image.specs.declared.tables.Table.the-variants.{VlanLookup}
 use Rattle.ports.specs.Ports.{sendingAt, sendingOf}
 use Rattle.ports.specs.Laws.{same-sending}
 use Rattle.ports.proofs.send.Statement.{statement}
 use Rattle.ports.proofs.send.Tie as tie
-
--- the port's entry of forwarding is there
-map-held : (buffer : List ℕ) (i : ℕ) → Sound buffer → i < 5 → Held 3 i buffer
-map-held buffer i s h =
-    let n = s .has .forwarding in
-    record { whole = s .within .whole; within = s .within .forwardings; there = omega arith }
 
 pub send-spec : {M : Type 1} → statement M
 unfolding sendingOf sendingAt
 send-spec =
     tie.close
     (tie.spec
-    (λ c κs. let s = c .before .pre in (map-held _ _ (s .0) (s .1 .0), s .1 .1))
-    (λ c κs. let s = c .before .before .pre in record { whole = s .0 .within .whole; within = s .0 .within .vlans; there = s .1 .2 })
+    (λ c κs. let s = c .before .pre in (domain-held _ _ (s .0) (s .1 .0), s .1 .1))
+    (λ c κs. let s = c .before .before .pre in held _ VlanLookup _ (s .0 .within) (s .1 .2))
     (λ c κs. (c .before .before .before .pre .0, (c .before .vlan-pmap .ensures .1, lit< tt)))
     (λ c κs. (c .before .before .before .before .pre .0, (c .before .before .vlan-pmap .ensures .1, lit< tt)))
     (λ c κs. (c .before .before .before .before .before .pre .0, (c .before .before .before .vlan-pmap .ensures .1, lit< tt)))

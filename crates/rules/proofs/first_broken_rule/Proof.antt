@@ -1,20 +1,31 @@
--- `rules::first_broken_rule`: rule 20 first; an image that it passes has what the other rules read.
+-- `rules::first_broken_rule`: no rule that the run has passed is broken.
+use mathlib.Core.Path.{_≡_}
+use mathlib.Core.Bool.{false}
+use Prim.Native.Nat.{_-_, _≤_}
 use borrow.Author.Needs.{needs}
-use mathlib.Core.Path.{sym, _∙_}
-use denote.Ref.{now}
-use Rattle.laws.specs.Chain.{flags}
-use Rattle.layout.specs.Layout.{imageIn}
-use Rattle.image.specs.Sound.{complete}
-use Rattle.rules.specs.Rules.{ruled}
+use Rattle.image.specs.Layout.{imageIn}
+use Rattle.rules.specs.Rules.{ruleCount, brokenBefore}
+use Rattle.rules.specs.Run.{run-none, run-broken, run-more, run-end}
 use Rattle.rules.proofs.first_broken_rule.Statement.{statement}
 use Rattle.rules.proofs.first_broken_rule.Tie as tie
 
+abbrev Inv-loop : tie.InvT-loop
+Inv-loop image seen k₀ k = (k ≤ ruleCount) × (brokenBefore (imageIn image) k ≡ false)
+
+abbrev μ-loop : tie.MeasureT-loop
+μ-loop image seen k₀ k = ruleCount - k
+
 pub first-broken-rule-spec : {M : Type 1} → statement M
-unfolding ruled
 first-broken-rule-spec =
     tie.close
     (tie.spec
+    Inv-loop
+    μ-loop
     (λ c κs. search needs)
-    (λ c. search flags depth 40)
-    (λ c κs. let has = complete (imageIn (now (c .before .before .before .args .image))) (sym (c .before .incomplete .ensures) ∙ c .if1 .left) in (c .before .before .before .pre, (has .ports, has .spaces)))
-    (λ c. search flags depth 40))
+    (λ c. search (needs, run-none))
+    (λ c κs. search needs)
+    (λ c. search (needs, run-broken))
+    (λ c. search needs)
+    (λ c. search needs)
+    (λ c. search (needs, run-more))
+    (λ c. search (needs, run-end)))

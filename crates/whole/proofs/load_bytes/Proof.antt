@@ -2,11 +2,11 @@
 use mathlib.Core.Path.{refl, sym, _∙_, ap, subst}
 use borrow.Author.Needs.{needs}
 use denote.Ref.{now}
+use Rattle.image.specs.Sound.{has-room}
 use Rattle.whole.proofs.Laws.{ends-as, bytes-31, bytes-9, bytes-whole}
-use Rattle.placing.proofs.refusal.Laws.{has-room}
 use Rattle.stream.proofs.states.Laws.{leaves-at}
 use Prim.Native.Nat.{ℕ, _≤_}
-use Rattle.layout.specs.Layout.{imageWords}
+use Rattle.image.specs.Layout.{imageWords}
 use Rattle.stream.specs.Ends.{settled}
 use Rattle.whole.proofs.load_bytes.Statement.{statement}
 use Rattle.whole.proofs.load_bytes.Tie as tie

@@ -6,23 +6,15 @@ use native.Mathlib.Omega.{arith}
 use lib.Dec.{ltb}
 use borrow.Author.Needs.{needs}
 use borrow.Author.Tests.{lt-ltb, le-ltb, ltb-true, ltb-false}
-use Rattle.laws.specs.Chain.{hit-lt, pass-lt}
+use Rattle.laws.specs.Chain.{hit-lt, pass-lt, together}
 use Rattle.ledger.specs.Range.{octetsOff}
 use Rattle.ledger.proofs.range.octets_off.Statement.{statement}
 use Rattle.ledger.proofs.range.octets_off.Tie as tie
 
--- two tests that hold together
-same : (a b c d : ℕ) → (a < b → c < d) → (b ≤ a → d ≤ c) → ltb a b ≡ ltb c d
-same a b c d f g = by (ltb a b) refl
-  where
-    by : (t : Bool) → t ≡ ltb a b → ltb a b ≡ ltb c d
-    by true e = sym e ∙ sym (lt-ltb c d (f (ltb-true a b (sym e))))
-    by false e = sym e ∙ sym (le-ltb c d (g (ltb-false a b (sym e))))
-
 module _ (count octets : ℕ) (fits : octets < 2 ^ 64) where
   many : 4499205871636476 < count → ltb (octets / 4) count ≡ octetsOff count octets
   unfolding octetsOff
-  many h = same (octets / 4) count octets (4 * count) (λ l. omega arith) (λ l. omega arith) ∙ first (ltb octets (4 * count)) _ (le-ltb (4100 * count) octets (omega arith))
+  many h = together (octets / 4) count octets (4 * count) (λ l. omega arith) (λ l. omega arith) ∙ first (ltb octets (4 * count)) _ (le-ltb (4100 * count) octets (omega arith))
     where
       first : (t y : Bool) → y ≡ false → t ≡ cond t true y
       first true y e = refl
@@ -36,7 +28,7 @@ module _ (count octets : ℕ) (fits : octets < 2 ^ 64) where
       by true p = let l : octets < 4 * count = ltb-true _ _ (sym p) in lt-ltb (4096 * count) left (omega arith) ∙ hit-lt octets (4 * count) _ _ l
       by false p =
           let l : 4 * count ≤ octets = ltb-false _ _ (sym p) in
-          pass-lt octets (4 * count) _ _ _ l (same (4096 * count) left (4100 * count) octets (λ r. omega arith) (λ r. omega arith))
+          pass-lt octets (4 * count) _ _ _ l (together (4096 * count) left (4100 * count) octets (λ r. omega arith) (λ r. omega arith))
 
 pub octets-off-spec : {M : Type 1} → statement M
 octets-off-spec =

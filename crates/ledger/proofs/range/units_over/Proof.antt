@@ -4,8 +4,8 @@ use lib.Dec.{ltb}
 use native.Mathlib.Omega.{arith}
 use borrow.Author.Needs.{needs}
 use Rattle.laws.specs.Scan.{some-below}
-use Rattle.layout.specs.Layout.{imageIn}
-use Rattle.image.specs.Fields.{partSpc}
+use Rattle.image.specs.Layout.{imageIn}
+use Rattle.fields.specs.Fields.{partSpc}
 use Rattle.ledger.specs.Row.{units, cell}
 use Rattle.ledger.specs.Above.{Tells, tells-none, tells-of, tells-more, tells-end}
 use Rattle.ledger.proofs.range.units_over.Statement.{statement}

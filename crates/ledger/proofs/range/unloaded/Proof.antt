@@ -1,7 +1,7 @@
 -- `ledger::range::unloaded`: 31, then 30.
 use borrow.Author.Needs.{needs}
+use Rattle.image.specs.Sound.{has-room}
 use Rattle.laws.specs.Chain.{flags}
-use Rattle.ledger.specs.Laws.{long-enough}
 use Rattle.ledger.specs.Range.{unloaded}
 use Rattle.ledger.proofs.range.unloaded.Statement.{statement}
 use Rattle.ledger.proofs.range.unloaded.Tie as tie
@@ -13,6 +13,6 @@ unloaded-spec =
     (tie.spec
     (λ c κs. tt)
     (λ c. search flags depth 40)
-    (λ c κs. search (needs, long-enough))
+    (λ c κs. search (needs, has-room))
     (λ c. search flags depth 40)
     (λ c. search flags depth 40))

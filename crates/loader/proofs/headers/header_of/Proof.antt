@@ -1,21 +1,12 @@
 -- `headers::header_of`: the ID names a table, whose own tests follow, or 4, or 3.
-use mathlib.Core.Path.{_∙_, ap}
-use Prim.Native.Nat.{ℕ}
+use mathlib.Core.Path.{sym, _∙_, ap}
 use borrow.Author.Needs.{needs}
 use denote.Ref.{now}
-use Rattle.stream.specs.Header.{idOf}
+use Rattle.image.specs.declared.tables.Block.{Block}
+use Rattle.stream.specs.Header.{headerOf}
 use Rattle.stream.specs.Machine.{hadIn}
-use Rattle.loader.specs.Header.{headerOf}
-use Rattle.loader.proofs.headers.Headers.{header-3, header-4, header-table}
 use Rattle.loader.proofs.headers.header_of.Statement.{statement}
 use Rattle.loader.proofs.headers.header_of.Tie as tie
-
-returns : tie.Need-returns
-returns c =
-    let a = c .before .before .before .before .before .before .args in
-    c .fits2 .ensures
-    ∙ ap (λ (k : ℕ). headerOf k (a .n) (hadIn (now (a .image)) k))
-    (header-table (idOf (a .first)) _ _ (c .before .before .before .before .block-of .ensures) (c .before .before .block .given .1))
 
 pub header-of-spec : {M : Type 1} → statement M
 header-of-spec =
@@ -26,6 +17,12 @@ header-of-spec =
     (λ c κs. search needs)
     (λ c. search needs)
     (λ c. search needs)
-    returns
-    (λ c. header-4 _ _ _ _ (c .before .before .block-of .ensures) (c .enum-told .given .1))
-    (λ c. header-3 _ _ _ _ (c .before .before .block-of .ensures) (c .enum-told2 .given .1)))
+    (λ c. let b = c .before .before .before .before in
+    let a = b .before .before .args in
+    c .fits2 .ensures ∙ ap (λ (x : Block). headerOf x (a .n) (hadIn (now (a .image)))) (sym (c .before .before .block .given .1) ∙ b .block-of .ensures))
+    (λ c. let b = c .before .before in
+    let a = b .before .before .args in
+    ap (λ (x : Block). headerOf x (a .n) (hadIn (now (a .image)))) (sym (c .enum-told .given .1) ∙ b .block-of .ensures))
+    (λ c. let b = c .before .before in
+    let a = b .before .before .args in
+    ap (λ (x : Block). headerOf x (a .n) (hadIn (now (a .image)))) (sym (c .enum-told2 .given .1) ∙ b .block-of .ensures)))

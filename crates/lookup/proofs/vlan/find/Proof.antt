@@ -2,17 +2,16 @@
 use mathlib.Core.Path.{_≡_, sym, _∙_, ap}
 use mathlib.Core.Bool.{false, true≢false}
 use mathlib.Core.List.{List}
-use Prim.Native.Nat.{ℕ, _+_, _-_, _%_, _<_, _≤_, _^_, zero-le}
+use Prim.Native.Nat.{ℕ, _+_, _-_, _%_, _≤_, zero-le}
 use native.Mathlib.Nat.{mod-lt, mod-eq-of-lt}
 use native.Mathlib.Omega.{arith}
-use lib.Dec.{lit<}
 use lib.Pow.{pow-pos}
 use borrow.Author.Needs.{needs}
 use borrow.Author.Tests.{eq-eqb, ne-eqb}
 use denote.Ref.{now}
 use Rattle.laws.specs.Scan.{first, first-none}
-use Rattle.layout.specs.Layout.{imageIn}
-use Rattle.image.specs.Fields.{vlanid}
+use Rattle.image.specs.Layout.{imageIn}
+use Rattle.fields.specs.Fields.{vlanid}
 use Rattle.lookup.specs.Vlan.{hasVlan}
 use Rattle.lookup.specs.Groups.{first-past, none-more, not-none}
 use Rattle.lookup.proofs.vlan.find.Statement.{statement}
@@ -48,7 +47,7 @@ find-spec =
     (tie.spec
     Inv-loop
     μ-loop
-    (λ c κs. (c .before .pre .0, lit< tt))
+    (λ c κs. c .before .pre .0)
     (λ c κs. tt)
     (λ c. (zero-le, first-none _))
     (λ c. c .loop .inv .0)

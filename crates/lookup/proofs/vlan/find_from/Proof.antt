@@ -1,13 +1,13 @@
 -- `lookup::vlan::find_from`: none of the entries that the loop has passed has the VLANID, so where it stops is the first.
 use mathlib.Core.Path.{_≡_, sym, _∙_}
-use Prim.Native.Nat.{ℕ, _-_, _≤_}
+use Prim.Native.Nat.{_-_, _≤_}
 use native.Mathlib.Omega.{arith}
-use lib.Dec.{lit<}
 use borrow.Author.Needs.{needs}
 use borrow.Author.Tests.{eq-eqb, ne-eqb}
 use denote.Ref.{now}
 use Rattle.laws.specs.Scan.{first, first-more, first-found, first-end}
-use Rattle.layout.specs.Layout.{imageIn, countOf}
+use Rattle.image.specs.Layout.{imageIn, countOf}
+use Rattle.image.specs.declared.tables.Table.the-variants.{VlanLookup}
 use Rattle.lookup.specs.Vlan.{hasVlan}
 use Rattle.lookup.proofs.vlan.find_from.Statement.{statement}
 use Rattle.lookup.proofs.vlan.find_from.Tie as tie
@@ -23,7 +23,7 @@ returns c =
     let s = c .before .before .before .before .before .before .args in
     let l = c .before .before .before .loop in (
       sym
-          (first-found (countOf (imageIn (now (s .image))) 2) (l .i) (hasVlan (imageIn (now (s .image))) (s .vlanid)) (omega arith) (l .inv .1)
+          (first-found (countOf (imageIn (now (s .image))) VlanLookup) (l .i) (hasVlan (imageIn (now (s .image))) (s .vlanid)) (omega arith) (l .inv .1)
           (eq-eqb _ _ (sym (c .before .vlanid .ensures .0) ∙ c .if1 .taken))),
       omega arith,
     )
@@ -48,7 +48,7 @@ find-from-spec =
     (tie.spec
     Inv-loop
     μ-loop
-    (λ c κs. (c .before .pre .0 .0, lit< tt))
+    (λ c κs. c .before .pre .0 .0)
     (λ c. (omega arith, c .before .before .pre .1 .1))
     (λ c κs. search needs)
     returns

@@ -1,14 +1,13 @@
 -- `lookup::vlan::none_has`: the top bit is set as long as none of the entries has the VLANID.
-use mathlib.Core.Path.{_≡_, refl, sym, _∙_, ap}
-use mathlib.Core.Bool.{Bool, not}
+use mathlib.Core.Path.{_∙_, ap}
+use mathlib.Core.Bool.{not}
 use Prim.Native.Nat.{ℕ, _-_, _<_, _≤_, _^_, zero-le}
-use native.Mathlib.Nat.{le-antisymm, lt-trans, lt-of-lt-of-le}
+use native.Mathlib.Nat.{le-antisymm, lt-trans}
 use native.Mathlib.Omega.{arith}
 use lib.Dec.{eqb}
 use borrow.Author.Needs.{needs}
-use denote.Ref.{now}
 use Rattle.laws.specs.Scan.{flag}
-use Rattle.layout.specs.Layout.{imageIn}
+use Rattle.image.specs.Layout.{imageIn}
 use Rattle.lookup.specs.Groups.{from, Clear, clear-none, clear-more, clear-end}
 use Rattle.lookup.specs.Vlan.{hasVlan}
 use Rattle.lookup.proofs.vlan.none_has.Statement.{statement}

@@ -2,7 +2,7 @@
 use mathlib.Core.Path.{sym, ap, subst, _∙_}
 use borrow.Author.Needs.{needs}
 use denote.Ref.{now}
-use Rattle.layout.specs.Layout.{imageIn}
+use Rattle.image.specs.Layout.{imageIn}
 use Rattle.frame.specs.Laws.{Whole, whole}
 use Rattle.plan.specs.Enter.{byPlace, byIntake, enterOf}
 use Rattle.plan.specs.EnterLaws.{Inside, inside}

@@ -5,6 +5,7 @@ use Rattle.laws.specs.Chain.{flags}
 use Rattle.plan.specs.Steps.{keptOut}
 use Rattle.plan.proofs.enter.kept_out.Statement.{statement}
 use Rattle.plan.proofs.enter.kept_out.Tie as tie
+use Rattle.image.specs.declared.tables.Table.the-variants.{AddressLookup, LookupParameters}
 
 low : (n : ℕ) → n < 5 → n < 64
 low n h = omega arith
@@ -16,6 +17,6 @@ kept-out-spec =
     (tie.spec
     (λ c κs. c .before .pre)
     (λ c. search flags depth 40)
-    (λ c κs. let s = c .before .before .before .pre in ((s .0 .within .whole, s .0 .within .addresses, s .0 .within .lookups), low _ (s .1 .0)))
+    (λ c κs. let s = c .before .before .before .pre in ((s .0 .within .whole, s .0 .within .within AddressLookup, s .0 .within .within LookupParameters), low _ (s .1 .0)))
     (λ c. search flags depth 40)
     (λ c. search flags depth 40))

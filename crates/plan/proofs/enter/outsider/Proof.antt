@@ -3,6 +3,8 @@ use mathlib.Core.Path.{_≡_, sym, _∙_, ap}
 use mathlib.Core.Bool.{Bool, true, false, cond, not}
 use Prim.Native.Nat.{ℕ, _<_}
 use native.Mathlib.Omega.{arith}
+use Rattle.image.specs.Sound.{held}
+use Rattle.image.specs.declared.tables.Table.the-variants.{VlanLookup}
 use Rattle.addresses.specs.Address.{holds}
 use Rattle.plan.proofs.enter.outsider.Statement.{statement}
 use Rattle.plan.proofs.enter.outsider.Tie as tie
@@ -21,7 +23,7 @@ pub outsider-spec : {M : Type 1} → statement M
 outsider-spec =
     tie.close
     (tie.spec
-    (λ c κs. let s = c .before .before .pre in record { whole = s .0 .within .whole; within = s .0 .within .vlans; there = s .1 .1 })
+    (λ c κs. let s = c .before .before .pre in held _ VlanLookup _ (s .0 .within) (s .1 .1))
     (λ c κs. low _ (c .before .before .before .pre .1 .0))
     (λ c.
     when-tagged _ _ _ (c .before .before .if1 .taken)

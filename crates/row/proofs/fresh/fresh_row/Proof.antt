@@ -4,7 +4,8 @@ use Prim.Native.Nat.{ℕ, _+_, _-_, _≤_, zero-le}
 use native.Mathlib.Omega.{arith}
 use borrow.Author.Needs.{needs}
 use denote.Ref.{now}
-use Rattle.layout.specs.Layout.{imageIn}
+use Rattle.image.specs.Layout.{imageIn}
+use Rattle.image.specs.declared.tables.Table.the-variants.{Policing}
 use Rattle.ledger.specs.Row.{units, credit, start, many}
 use Rattle.row.specs.Fresh.{freshCell, freshOf, Filling, filling-none, partition-more, meters-on, meter-more, fresh-end}
 use Rattle.row.proofs.fresh.fresh_row.Statement.{statement}
@@ -45,7 +46,7 @@ fresh-row-spec =
     (λ c.
     let l = c .before .before .loop in
     let s = c .before .before .before .before in
-    (zero-le, subst (λ (m : ℕ). m ≤ many credit) (sym (c .count .ensures .0)) (s .pre .within .policers), meters-on (imageIn (now (s .args .image))) (l .row) (l .j) (l .inv .1) (l .inv .0) (c .before .loop-test .left)))
+    (zero-le, subst (λ (m : ℕ). m ≤ many credit) (sym (c .count .ensures .0)) (s .pre .within .within Policing), meters-on (imageIn (now (s .args .image))) (l .row) (l .j) (l .inv .1) (l .inv .0) (c .before .loop-test .left)))
     (λ c κs. search needs)
     (λ c. omega arith)
     (λ c. omega arith)

@@ -1,2 +1,0 @@
--- Laws that the proofs of single numbers cite.
-pub mod Laws

@@ -1,2 +1,0 @@
--- What a block's header comes to.
-pub mod Header

@@ -1,0 +1,144 @@
+-- Laws of a run of the rules, one after the other up to the first that is broken. None of them counts the rules.
+-- Then what the tests of the rules lean on: a pass that marks values, and a search that finds none.
+use mathlib.Core.Path.{_≡_, refl, sym, _∙_, ap, subst}
+use mathlib.Core.Bool.{Bool, true, false, cond, not, _||_}
+use mathlib.Core.List.{List, [], _∷_}
+use Prim.Native.Nat.{ℕ, zero, suc, _+_, _<_, _≤_}
+use native.Mathlib.Nat.{le-antisymm, le-refl, le-of-suc-le-suc, suc-le-suc-iff, not-suc-le-zero, zero-lt-suc}
+use native.Mathlib.Omega.{arith}
+use lib.Dec.{T, ltb, eqb}
+use lib.ListN.{length, getD, List·getD-eq-default}
+use borrow.Author.Tests.{eq-eqb, ne-eqb, ltb-true, ltb-false}
+use Rattle.laws.specs.Chain.{lt-of}
+use Rattle.laws.specs.Scan.{some-below, some-none, some-not, none-at, first, first-within, Counting, counting-end, Misses, misses-above}
+use Rattle.laws.specs.Table.{both, both-left, both-right}
+use Rattle.image.specs.Layout.{countOf}
+use Rattle.image.specs.Sound.{complete}
+use Rattle.image.specs.declared.tables.Table.the-variants.{VlanLookup, MacConfiguration, ForwardingParameters}
+use Rattle.fields.specs.Fields.{vlanid}
+use Rattle.rules.specs.Broken.{vlanTwice}
+use Rattle.rules.specs.Rules.{Rule, rules, firstOf, ruled, ruleCount, blank, ruleAt, said, brokenBefore}
+
+-- ---- the first one broken, of any list of rules
+
+-- the image breaks none of the first k
+abbrev Past : List Rule → List ℕ → ℕ → Type 0
+Past rs image k = (j : ℕ) → j < k → getD rs j blank .broken image ≡ false
+
+past-one : (r : Rule) (rs : List Rule) (image : List ℕ) (k : ℕ) → Past (r ∷ rs) image (suc k) → firstOf rs image ≡ firstOf (r ∷ rs) image
+past-one r rs image k past = sym (ap (λ (t : Bool). cond t (r .number) (firstOf rs image)) (past zero (zero-lt-suc k)))
+
+past-rest : (r : Rule) (rs : List Rule) (image : List ℕ) (k : ℕ) → Past (r ∷ rs) image (suc k) → Past rs image k
+past-rest r rs image k past j h = past (suc j) (suc-le-suc-iff .1 h)
+
+-- it breaks none before the k-th, and the k-th
+first-at : (rs : List Rule) (image : List ℕ) (k : ℕ) → k < length rs → Past rs image k → getD rs k blank .broken image ≡ true → getD rs k blank .number ≡ firstOf rs image
+first-at [] image k l past b = absurd (not-suc-le-zero l)
+first-at (r ∷ rs) image zero l past b = sym (ap (λ (t : Bool). cond t (r .number) (firstOf rs image)) b)
+first-at (r ∷ rs) image (suc k) l past b = first-at rs image k (le-of-suc-le-suc l) (past-rest r rs image k past) b ∙ past-one r rs image k past
+
+-- it breaks none
+first-past : (rs : List Rule) (image : List ℕ) → Past rs image (length rs) → 0 ≡ firstOf rs image
+first-past [] image past = refl
+first-past (r ∷ rs) image past = first-past rs image (past-rest r rs image (length rs) past) ∙ past-one r rs image (length rs) past
+
+-- none has the number 0
+abbrev numbered : List Rule → Bool
+numbered [] = true
+numbered (r ∷ rs) = both (not (eqb (r .number) 0)) (numbered rs)
+
+number-at : (rs : List Rule) → T (numbered rs) → (k : ℕ) → k < length rs → getD rs k blank .number ≡ 0 → ⊥
+number-at [] t k l e = not-suc-le-zero l
+number-at (r ∷ rs) t zero l e = subst (λ (b : Bool). T (not b)) (eq-eqb (r .number) 0 e) (both-left (not (eqb (r .number) 0)) (numbered rs) t)
+number-at (r ∷ rs) t (suc k) l e = number-at rs (both-right (not (eqb (r .number) 0)) (numbered rs) t) k (le-of-suc-le-suc l) e
+
+-- ---- the run: n is what rule k says, and no rule before k is broken
+
+past-rules : (image : List ℕ) (k : ℕ) → brokenBefore image k ≡ false → Past rules image k
+unfolding brokenBefore
+past-rules image k e j h = none-at k j (λ i. ruleAt i .broken image) e h
+
+pub run-none : (image : List ℕ) → brokenBefore image 0 ≡ false
+unfolding brokenBefore
+run-none image = some-none (λ j. ruleAt j .broken image)
+
+-- n is not 0: it is the answer
+pub run-broken : (image : List ℕ) (k n : ℕ) → n ≡ said image k → (n ≡ 0 → ⊥) → k < ruleCount → brokenBefore image k ≡ false → n ≡ ruled image
+unfolding said ruled
+run-broken image k n e ne l past = by (ruleAt k .broken image) refl
+  where
+    by : (b : Bool) → ruleAt k .broken image ≡ b → n ≡ firstOf rules image
+    by true q = e ∙ ap (λ (t : Bool). cond t (ruleAt k .number) 0) q ∙ first-at rules image k l (past-rules image k past) q
+    by false q = absurd (ne (e ∙ ap (λ (t : Bool). cond t (ruleAt k .number) 0) q))
+
+-- n is 0: rule k is not broken either
+pub run-more : (image : List ℕ) (k n : ℕ) → n ≡ said image k → n ≡ 0 → k < ruleCount → brokenBefore image k ≡ false → brokenBefore image (k + 1) ≡ false
+unfolding said brokenBefore
+run-more image k n e z l past = some-not k (λ j. ruleAt j .broken image) past (by (ruleAt k .broken image) refl)
+  where
+    by : (b : Bool) → ruleAt k .broken image ≡ b → b ≡ false
+    by true q = absurd (number-at rules tt k l (sym (e ∙ ap (λ (t : Bool). cond t (ruleAt k .number) 0) q) ∙ z))
+    by false q = refl
+
+-- there is no rule k: none is broken
+pub run-end : (image : List ℕ) (k : ℕ) → k ≤ ruleCount → ruleCount ≤ k → brokenBefore image k ≡ false → 0 ≡ ruled image
+unfolding ruled
+run-end image k a b past = first-past rules image (subst (Past rules image) (le-antisymm a b) (past-rules image k past))
+
+-- ---- the match on k
+
+-- what the arm for i answers is what the rule at i says
+pub arm-says : (image : List ℕ) (k i r : ℕ) (b : Bool) → k ≡ i → r ≡ cond b (ruleAt i .number) 0 → b ≡ ruleAt i .broken image → r ≡ said image k
+unfolding said
+arm-says image k i r b e q h = q ∙ ap (λ (t : Bool). cond t (ruleAt i .number) 0) h ∙ sym (ap (λ (j : ℕ). said image j) e)
+
+-- the arm for all others answers 0: behind the list there is no rule
+pub no-rule : (image : List ℕ) (k : ℕ) → Misses ruleCount k → 0 ≡ said image k
+unfolding said
+no-rule image k m = sym (ap (λ (r : Rule). cond (r .broken image) (r .number) 0) (List·getD-eq-default rules blank {n = k} (misses-above ruleCount k m)))
+
+-- rule 20 is the list's first: past it, what it asks for is there
+past-20 : (image : List ℕ) (k i : ℕ) → brokenBefore image k ≡ false → k ≡ i → 0 < i → ruleAt 0 .broken image ≡ false
+past-20 image k i past e h = past-rules image k past 0 (lt-of 0 k i (sym e) h)
+
+pub ports-there : (image : List ℕ) (k i : ℕ) → brokenBefore image k ≡ false → k ≡ i → 0 < i → countOf image MacConfiguration ≡ 5
+ports-there image k i past e h = complete image (past-20 image k i past e h) .ports
+
+pub spaces-there : (image : List ℕ) (k i : ℕ) → brokenBefore image k ≡ false → k ≡ i → 0 < i → countOf image ForwardingParameters ≡ 1
+spaces-there image k i past e h = complete image (past-20 image k i past e h) .spaces
+
+-- ---- a pass over values that marks each
+
+-- the pass came to its end n, which is the m that is asked
+pub counting-whole : (f : ℕ → ℕ) (size i sum n m : ℕ) (marks : List ℕ) → Counting f size i sum marks → n ≤ i → i ≤ n → n ≡ m → Counting f size m sum marks
+counting-whole f size i sum n m marks c a b e = subst (λ (k : ℕ). Counting f size k sum marks) (le-antisymm b a ∙ e) c
+
+-- what one pass over 07 leaves: a mark for each of the 4,096 VLANIDs (12 bits), and how often one was set already
+abbrev pub Vlans : List ℕ → ℕ → List ℕ → Type 0
+Vlans image again marks = Counting (λ i. vlanid image i) 4096 (countOf image VlanLookup) again marks
+
+pub again-twice : (image : List ℕ) (again : ℕ) (marks : List ℕ) → Vlans image again marks → not (eqb again 0) ≡ vlanTwice image
+again-twice image again marks c = counting-end _ _ _ again _ _ marks c (le-refl _) (le-refl _) refl
+
+-- ---- a search finds one exactly where there is one
+pub first-some : (n : ℕ) (p : ℕ → Bool) → some-below n p ≡ not (eqb (first n p) n)
+unfolding some-below first
+first-some zero p = refl
+first-some (suc n) p = by (first-some n p) (ltb (first n p) n) refl (p n)
+  where
+    here : (t : Bool) → t ≡ not (eqb (cond t n (suc n)) (suc n))
+    here true = sym (ap not (ne-eqb n (suc n) (λ q. omega arith)))
+    here false = sym (ap not (eq-eqb (suc n) (suc n) refl))
+
+    by : some-below n p ≡ not (eqb (first n p) n) → (s : Bool) → ltb (first n p) n ≡ s → (t : Bool)
+        → some-below n p || t ≡ not (eqb (cond s (first n p) (cond t n (suc n))) (suc n))
+    by h true e t =
+        let l = ltb-true (first n p) n e in
+        ap (λ (b : Bool). b || t) (h ∙ ap not (ne-eqb (first n p) n (λ q. omega arith))) ∙ sym (ap not (ne-eqb (first n p) (suc n) (λ q. omega arith)))
+    by h false e t =
+        ap (λ (b : Bool). b || t) (h ∙ ap not (eq-eqb (first n p) n (le-antisymm (first-within n p) (ltb-false (first n p) n e)))) ∙ here t
+
+-- for `search`: what an arm's test asks, and what an arm says
+pub ruleset asked = (ports-there, spaces-there)
+
+pub ruleset says = (arm-says, again-twice)

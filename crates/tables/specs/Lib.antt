@@ -1,3 +1,0 @@
--- The nine tables as rows, and what a block ID names.
-pub mod Rows
-pub mod Tables
