@@ -2,6 +2,7 @@
 pub mod Rows
 pub mod Blocks
 pub mod Layout
+pub mod Pins
 pub mod RowLaws
 pub mod Ascending
 pub mod Loaded
