@@ -4,9 +4,8 @@ use mathlib.Core.List.{List, [], _∷_, _++_}
 use Prim.Native.Nat.{ℕ, zero, suc, _+_, _-_, _*_, _/_, _%_, _^_, _≤_, _<_}
 use native.Mathlib.Nat.{mod-lt, mod-eq-of-lt, mul-one, zero-add, suc-add, le-of-eq}
 use native.Mathlib.Omega.{arith}
-use lib.Dec.{lit<}
 use lib.Pow.{pow-pos, mod-pow-add}
-use lib.Bits.{bitXor, differ, xor-lt, xor-comm, xor-self, xor-zero-r, xor-mod, xor-shifted, shifted-even, shifted-half}
+use lib.Bits.{bitXor, differ, xor-lt, xor-comm, xor-shifted, shifted-even, shifted-half}
 use lib.ListN.{length, getD, take, drop, length-drop}
 use lib.Seq.{drop-cons, take-all}
 use native.Mathlib.Numerals.{add-one}
@@ -15,26 +14,10 @@ use Rattle.crc.specs.Xor.{odd-lt, xor-odd, xor-half, xor-assoc, xor-pair
 
 -- ---- a run in parts
 
-bytesIn-append : (r : ℕ) (bs cs : List ℕ) → bytesIn r (bs ++ cs) ≡ bytesIn (bytesIn r bs) cs
-unfolding bytesIn
-bytesIn-append r [] cs = refl
-bytesIn-append r (b ∷ bs) cs = bytesIn-append (byteIn r b) bs cs
-
 pub wordsIn-append : (r : ℕ) (vs ws : List ℕ) → wordsIn r (vs ++ ws) ≡ wordsIn (wordsIn r vs) ws
 unfolding wordsIn
 wordsIn-append r [] ws = refl
 wordsIn-append r (v ∷ vs) ws = wordsIn-append (wordIn r v) vs ws
-
--- the bytes of words, each word's low byte first
-unfoldable pub bytesOfAll : List ℕ → List ℕ
-bytesOfAll [] = []
-bytesOfAll (w ∷ ws) = bytesOf w ++ bytesOfAll ws
-
--- words go in as their bytes do
-wordsIn-bytes : (r : ℕ) (ws : List ℕ) → wordsIn r ws ≡ bytesIn r (bytesOfAll ws)
-unfolding wordsIn wordIn bytesIn bytesOfAll
-wordsIn-bytes r [] = refl
-wordsIn-bytes r (w ∷ ws) = wordsIn-bytes (wordIn r w) ws ∙ sym (bytesIn-append r (bytesOf w) (bytesOfAll ws))
 
 -- ---- a register stays below 2^32, whatever the words
 
@@ -55,11 +38,6 @@ pub wordIn-lt : (r w : ℕ) → r < 2 ^ 32 → wordIn r w < 2 ^ 32
 unfolding wordIn bytesIn bytesOf
 wordIn-lt r w h =
     byteIn-lt _ _ (byteIn-lt _ _ (byteIn-lt _ _ (byteIn-lt _ _ h (omega arith)) (omega arith)) (omega arith)) (omega arith)
-
-wordsIn-lt : (r : ℕ) (ws : List ℕ) → r < 2 ^ 32 → wordsIn r ws < 2 ^ 32
-unfolding wordsIn
-wordsIn-lt r [] h = h
-wordsIn-lt r (w ∷ ws) h = wordsIn-lt (wordIn r w) ws (wordIn-lt r w h)
 
 -- ---- linearity over exclusive or
 
@@ -129,42 +107,6 @@ wordIn-low r w =
 
 pub wordIn-bits : (r w : ℕ) → w < 2 ^ 32 → wordIn r w ≡ bitsOut 32 (bitXor r w)
 wordIn-bits r w h = wordIn-low r w ∙ ap (λ (x : ℕ). bitsOut 32 (bitXor r x)) (mod-eq-of-lt h)
-
-wordIn-linear : (a b v w : ℕ) → wordIn (bitXor a b) (bitXor v w) ≡ bitXor (wordIn a v) (wordIn b w)
-wordIn-linear a b v w =
-    wordIn-low (bitXor a b) (bitXor v w)
-    ∙ ap (λ (x : ℕ). bitsOut 32 (bitXor (bitXor a b) x)) (xor-mod v w 32)
-    ∙ ap (bitsOut 32) (xor-pairs a b (v % 2 ^ 32) (w % 2 ^ 32))
-    ∙ bitsOut-linear 32 (bitXor a (v % 2 ^ 32)) (bitXor b (w % 2 ^ 32))
-    ∙ sym (ap₂ bitXor (wordIn-low a v) (wordIn-low b w))
-
--- the words of two lists, each met by the other's
-unfoldable pub xorAll : List ℕ → List ℕ → List ℕ
-xorAll [] ws = []
-xorAll (v ∷ vs) [] = []
-xorAll (v ∷ vs) (w ∷ ws) = bitXor v w ∷ xorAll vs ws
-
-pub wordsIn-linear : (a b : ℕ) (vs ws : List ℕ) → length vs ≡ length ws
-    → wordsIn (bitXor a b) (xorAll vs ws) ≡ bitXor (wordsIn a vs) (wordsIn b ws)
-unfolding wordsIn xorAll
-wordsIn-linear a b [] [] e = refl
-wordsIn-linear a b [] (w ∷ ws) e = absurd (omega arith)
-wordsIn-linear a b (v ∷ vs) [] e = absurd (omega arith)
-wordsIn-linear a b (v ∷ vs) (w ∷ ws) e =
-    ap (λ (x : ℕ). wordsIn x (xorAll vs ws)) (wordIn-linear a b v w)
-    ∙ wordsIn-linear (wordIn a v) (wordIn b w) vs ws (omega arith)
-
--- two registers over the same words: what sets them apart is what set them apart before, as many bits later
-wordsIn-apart : (a b : ℕ) (ws : List ℕ) → bitXor (wordsIn a ws) (wordsIn b ws) ≡ bitsOut (32 * length ws) (bitXor a b)
-unfolding wordsIn
-wordsIn-apart a b [] = unfold bitsOut in refl
-wordsIn-apart a b (w ∷ ws) =
-    wordsIn-apart (wordIn a w) (wordIn b w) ws
-    ∙ ap (bitsOut (32 * length ws))
-    (sym (wordIn-linear a b w w) ∙ ap (wordIn (bitXor a b)) (xor-self w)
-    ∙ wordIn-bits (bitXor a b) 0 (lit< tt) ∙ ap (bitsOut 32) (xor-zero-r (bitXor a b)))
-    ∙ sym (bitsOut-add 32 (32 * length ws) (bitXor a b))
-    ∙ ap (λ (n : ℕ). bitsOut n (bitXor a b)) (omega arith)
 
 -- ---- by table: a word's bytes apart, and four words in one turn
 

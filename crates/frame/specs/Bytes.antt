@@ -1,5 +1,5 @@
 -- What a frame's bytes say (IEEE 802.1Q for the tag; document 01, step 3).
-use mathlib.Core.Bool.{Bool, true, false, cond}
+use mathlib.Core.Bool.{Bool, cond}
 use mathlib.Core.List.{List}
 use Prim.Native.Nat.{ℕ, _+_, _*_, _/_, _%_}
 use lib.Dec.{eqb}

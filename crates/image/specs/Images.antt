@@ -23,10 +23,6 @@ length-entries k (r ∷ rs) lists =
     ∙ ap (λ (m : ℕ). m + length (entriesFrom (suc k) rs lists)) (length-padded (room r) (getD lists k []))
     ∙ ap (λ (m : ℕ). room r + m) (length-entries (suc k) rs lists)
 
-length-counts : (k : ℕ) (rs : List Row) (lists : List (List ℕ)) → length (countsFrom k rs lists) ≡ length rs
-length-counts k [] lists = refl
-length-counts k (r ∷ rs) lists = ap suc (length-counts (suc k) rs lists)
-
 -- the count of the row at j, counted from k
 counts-at : (k : ℕ) (rs : List Row) (lists : List (List ℕ)) (j : ℕ) (rest : List ℕ) → j < length rs
     → getD (countsFrom k rs lists ++ rest) j 0 ≡ length (getD lists (k + j) []) / getD rs j blank .size

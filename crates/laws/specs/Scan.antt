@@ -45,22 +45,7 @@ total (suc n) f = total n f + f n
 unfoldable pub twice : ℕ → (ℕ → ℕ) → Bool
 twice n f = some-below n (λ j. some-below j (λ i. eqb (f i) (f j)))
 
--- ---- one turn more, at the code's n + 1
--- an index that fails, and no scan past it passes
-every-fails : (n i : ℕ) (p : ℕ → Bool) → i < n → p i ≡ false → every n p ≡ false
-unfolding every
-every-fails zero i p l h = absurd (not-suc-le-zero l)
-every-fails (suc n) i p l h =
-    ⊎-elim (λ e. and-right (every n p) (p n) (subst (λ (k : ℕ). p k ≡ false) e h)) (λ lt. and-left (every n p) (p n) (every-fails n i p lt h))
-    (eq-or-lt-of-le (le-of-suc-le-suc l))
-  where
-    and-left : (a b : Bool) → a ≡ false → (a && b) ≡ false
-    and-left a b e = ap (λ (t : Bool). t && b) e
-
-    and-right : (a b : Bool) → b ≡ false → (a && b) ≡ false
-    and-right true b e = e
-    and-right false b e = refl
-
+-- ---- every
 -- what every index passes, each one passes
 pub every-at : (n i : ℕ) (p : ℕ → Bool) → every n p ≡ true → i < n → p i ≡ true
 unfolding every

@@ -4,7 +4,7 @@ use mathlib.Core.List.{List, [], _∷_, _++_}
 use Prim.Native.Nat.{ℕ}
 use lib.ListN.{replicate}
 use Rattle.records.specs.Bytes.{big, differ}
-use Rattle.records.specs.List.{Opens, version, shut, Stands, frame, release, end, refused, mark, versionOne, firstPlace, openingOf, kindOf, frameAt, releaseAt, standsAt}
+use Rattle.records.specs.List.{version, shut, frame, release, end, refused, mark, versionOne, firstPlace, openingOf, kindOf, frameAt, releaseAt, standsAt}
 use Rattle.records.specs.Walk.{walk, walkFor}
 
 -- mark and version, then these bytes

@@ -1,8 +1,8 @@
 -- How a meter grows without its product being made, and what the tests of a spending come to.
 use mathlib.Core.Path.{_≡_, refl, sym, _∙_, ap, subst}
 use mathlib.Core.Bool.{Bool, true, false, cond}
-use Prim.Native.Nat.{ℕ, zero, suc, _+_, _-_, _*_, _/_, _<_, _≤_, min}
-use native.Mathlib.Nat.{min-eq-left, min-eq-right, min-le-left, le-of-lt, le-trans, add-zero, mul-zero, mul-assoc, pos-of-ne-zero, le-div-iff-mul-le, div-lt-iff-lt-mul, le-refl}
+use Prim.Native.Nat.{ℕ, zero, _+_, _-_, _*_, _/_, _<_, _≤_, min}
+use native.Mathlib.Nat.{min-eq-left, min-eq-right, le-of-lt, add-zero, mul-zero, pos-of-ne-zero, le-div-iff-mul-le, div-lt-iff-lt-mul, le-refl}
 use native.Mathlib.Omega.{arith}
 use lib.Dec.{ltb}
 use Rattle.laws.specs.Chain.{hit-lt, pass-lt}

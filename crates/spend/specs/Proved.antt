@@ -6,7 +6,6 @@ use native.Mathlib.Nat.{min-le-left, lt-of-le-of-lt}
 use lib.Dec.{ltb, eqb, lit<}
 use borrow.Author.Tests.{lt-ltb}
 use Rattle.spend.specs.declared.Meter.{Meter}
-use Rattle.spend.specs.declared.Spent.{Spent}
 use Rattle.spend.specs.Meter.{refilled, cost}
 use Rattle.spend.specs.Spend.{spent, unitsOf, paidOf, creditAt, spentOf}
 

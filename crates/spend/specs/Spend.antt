@@ -1,6 +1,6 @@
 -- Drops 9, 10 and 11 and what each verdict leaves in one meter, one partition and one port's counts (document 01, steps 9 to 11).
 use mathlib.Core.Bool.{Bool, cond}
-use Prim.Native.Nat.{ℕ, _+_, _-_, _*_}
+use Prim.Native.Nat.{ℕ, _+_, _-_}
 use lib.Dec.{ltb, eqb}
 use Rattle.spend.specs.declared.Meter.{Meter}
 use Rattle.spend.specs.declared.Spent.{Spent}

@@ -1,7 +1,6 @@
 -- `frame::by_tag`: by the tag's case.
 use borrow.Author.Needs.{needs}
-use mathlib.Core.Path.{_≡_, refl, sym, ap, _∙_}
-use Prim.Native.Nat.{ℕ}
+use mathlib.Core.Path.{refl, sym, ap, _∙_}
 use Rattle.frame.specs.Intake.{byTag}
 use Rattle.frame.specs.Laws.{same-taken}
 use Rattle.frame.proofs.by_tag.Statement.{statement}

@@ -1,6 +1,6 @@
 -- The tests before a write: 30's sum by a difference, and what the failed tests for 31 and 32 tell.
 use mathlib.Core.Path.{_≡_}
-use mathlib.Core.Bool.{true, false, true≢false}
+use mathlib.Core.Bool.{false, true≢false}
 use mathlib.Core.List.{List}
 use Prim.Native.Nat.{ℕ, zero, suc, _+_, _-_, _*_, _<_, _≤_}
 use native.Mathlib.Nat.{zero-lt-suc}

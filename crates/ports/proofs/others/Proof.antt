@@ -1,7 +1,5 @@
 -- `ports::others`: 2^port taken from 31, port by port.
-use borrow.Author.Needs.{needs}
 use mathlib.Core.Path.{_≡_, sym, ap}
-use Prim.Native.Nat.{ℕ}
 use native.Mathlib.Omega.{arith}
 use Rattle.ports.specs.Ports.{others}
 use Rattle.ports.proofs.others.Statement.{statement}

@@ -1,6 +1,5 @@
 -- `spend::grown`: exact for every elapsed time, since the product is made only where it stays below full.
 use borrow.Author.Needs.{needs}
-use Prim.Native.Nat.{_+_, _*_}
 use native.Mathlib.Omega.{arith}
 use Rattle.spend.specs.Laws.{no-gain, filled, within, partly}
 use Rattle.spend.proofs.grown.Statement.{statement}

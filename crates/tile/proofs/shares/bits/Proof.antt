@@ -1,6 +1,5 @@
 -- `tile::shares::bits`: a NaN is told before the cast.
-use borrow.Author.Needs.{needs}
-use mathlib.Core.Path.{_≡_, refl, sym, ap, subst, _∙_}
+use mathlib.Core.Path.{sym, ap, subst}
 use mathlib.Core.Bool.{Bool, not, cond}
 use lib.Dec.{T}
 use lib.Ieee.{binary64, toBits}

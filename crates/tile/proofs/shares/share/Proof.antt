@@ -1,5 +1,5 @@
 -- `tile::shares::share`: one division.
-use mathlib.Core.Path.{_≡_, refl, sym, ap, subst, _∙_}
+use mathlib.Core.Path.{ap, _∙_}
 use lib.Ieee.{Float, binary64, div}
 use Rattle.tile.specs.Tiles.{shareOf}
 use Rattle.tile.proofs.shares.share.Statement.{statement}
