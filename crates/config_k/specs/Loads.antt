@@ -24,7 +24,7 @@ pub k-framed : framed K ≡ passed kTables
 unfolding framed blocks blockOf checksum finished wordsIn wordIn bytesOf bytesIn byteIn bitsOut bit kTables
 k-framed = refl
 
--- ---- none of the six rules is broken, each by what K's counts and fields are
+-- ---- no rule is broken, each by what K's counts and fields are
 
 module _ (image : List ℕ) (k : IsK image) where
   not20 : incomplete image ≡ false

@@ -108,7 +108,7 @@ fn print_spaces(image: &[u32])
     }
 }
 
-// Entry i of a table; the last two have no field in use.
+// Entry i of a table; 11 and 4E have no field in use.
 fn print_entry(image: &[u32], table: Table, i: usize)
     requires { ⌜ Held table i (now image) ⌝ }
 {
