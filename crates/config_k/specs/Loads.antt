@@ -12,7 +12,7 @@ use Rattle.image.specs.Layout.{imageOf}
 use Rattle.image.specs.Blocks.{blockOf}
 use Rattle.fields.specs.Fields.{vlanid, index}
 use Rattle.image.specs.Loaded.{incomplete}
-use Rattle.rules.specs.Broken.{vlanTwice, vlanMissing, sharindxBeyond, spaceOver, indexTwice}
+use Rattle.broken.specs.Broken.{vlanTwice, vlanMissing, sharindxBeyond, spaceOver, indexTwice}
 use Rattle.rules.specs.Rules.{ruled}
 use Rattle.stream.specs.Paper.{Outcome, passed, blocks, framed, refusedWith, outcomeOf, loaded}
 use Rattle.config_k.specs.Stream.{K}

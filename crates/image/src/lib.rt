@@ -1,16 +1,14 @@
-// The image in a lent buffer: its counts and its mark behind the entries, how they are read and written, and the tests behind refusals 31 and 30.
+// The image in a lent buffer: its counts and its mark behind the entries, how they are read and written, and the test behind refusal 31.
 // No other crate knows where anything stands in it.
 pub mod tables;
 
 use crate::tables::TABLES;
 use crate::tables::Table;
 ghost use mathlib.Core.Path.{_≡_};
-ghost use mathlib.Core.Bool.{not};
 ghost use Prim.Native.Nat.{_<_, _≤_};
-ghost use lib.Dec.{eqb};
 ghost use lib.ListN.{length, getD};
-ghost use Rattle.image.specs.Layout.{imageWords, imageIn, countOf, cleared, counted, marked};
-ghost use Rattle.image.specs.Loaded.{tooShort, above, overLimit, incomplete, notLoaded};
+ghost use Rattle.image.specs.Layout.{imageWords, imageIn, countOf, markOf, cleared, counted, marked};
+ghost use Rattle.image.specs.Loaded.{tooShort};
 
 // 11,430 words of entries; the counts follow them, then the mark. 26 words are for counts and state.
 const COUNTS: usize = 11430;
@@ -41,20 +39,12 @@ pub fn count(image: &[u32], table: Table) -> usize
     word(image, COUNTS + tables::row_of(table).place)
 }
 
-// Is a table's count this n?
-fn counts(image: &[u32], table: Table, n: usize) -> bool
+// The word where the mark stands.
+pub fn mark(image: &[u32]) -> usize
     requires { ⌜ imageWords ≤ length (now image) ⌝ }
-    ensures { λ r. ⌜ r ≡ eqb (countOf (imageIn (now (image .entry))) table) n ⌝ }
+    ensures { λ r. ⌜ (r ≡ markOf (imageIn (now (image .entry)))) × (r < 4294967296) ⌝ }
 {
-    count(image, table) == n
-}
-
-// Is a table's count another number than n?
-fn differs(image: &[u32], table: Table, n: usize) -> bool
-    requires { ⌜ imageWords ≤ length (now image) ⌝ }
-    ensures { λ r. ⌜ r ≡ not (eqb (countOf (imageIn (now (image .entry))) table) n) ⌝ }
-{
-    count(image, table) != n
+    word(image, MARK)
 }
 
 // The image's words to zero; the buffer's rest is kept.
@@ -89,67 +79,4 @@ pub fn too_short(image: &[u32]) -> bool
     ensures { λ r. ⌜ r ≡ tooShort (now (image .entry)) ⌝ }
 {
     image.len() < IMAGE_WORDS
-}
-
-// A table's count is above its most entries.
-fn above(image: &[u32], table: Table) -> bool
-    requires { ⌜ imageWords ≤ length (now image) ⌝ }
-    ensures { λ r. ⌜ r ≡ above (imageIn (now (image .entry))) table ⌝ }
-{
-    tables::row_of(table).most < count(image, table)
-}
-
-// Some count is above its table's most entries.
-pub fn over_limit(image: &[u32]) -> bool
-    requires { ⌜ imageWords ≤ length (now image) ⌝ }
-    ensures { λ r. ⌜ r ≡ overLimit (imageIn (now (image .entry))) ⌝ }
-{
-    let mut place: usize = 0;
-    while place < TABLES {
-        if above(image, tables::table_at(place)) {
-            return true;
-        }
-        place += 1;
-    }
-    false
-}
-
-// Rule 20: a table is missing that has to be there, or has another number of entries than it has to have.
-pub fn incomplete(image: &[u32]) -> bool
-    requires { ⌜ imageWords ≤ length (now image) ⌝ }
-    ensures { λ r. ⌜ r ≡ incomplete (imageIn (now (image .entry))) ⌝ }
-{
-    if counts(image, Table::Policing, 0) {
-        return true;
-    }
-    if counts(image, Table::VlanLookup, 0) {
-        return true;
-    }
-    if differs(image, Table::Forwarding, 13) {
-        return true;
-    }
-    if differs(image, Table::MacConfiguration, 5) {
-        return true;
-    }
-    if differs(image, Table::ForwardingParameters, 1) {
-        return true;
-    }
-    if differs(image, Table::GeneralParameters, 1) {
-        return true;
-    }
-    differs(image, Table::XmiiModeParameters, 1)
-}
-
-// 30 for a frame, a release, a tile and a fresh ledger.
-pub fn not_loaded(image: &[u32]) -> bool
-    requires { ⌜ imageWords ≤ length (now image) ⌝ }
-    ensures { λ r. ⌜ r ≡ notLoaded (imageIn (now (image .entry))) ⌝ }
-{
-    if word(image, MARK) != 1 {
-        return true;
-    }
-    if over_limit(image) {
-        return true;
-    }
-    incomplete(image)
 }

@@ -157,7 +157,7 @@ pub fn unloaded(image: &[u32]) -> u32
     if image::too_short(image) {
         return 31;
     }
-    if image::not_loaded(image) {
+    if loaded::not_loaded(image) {
         return 30;
     }
     0

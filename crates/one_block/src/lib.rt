@@ -28,7 +28,7 @@ pub fn data_place(image: &[u32], table: Table, placed: usize, due: usize, n: usi
     if due < n {
         return image::IMAGE_WORDS;
     }
-    if image::over_limit(image) {
+    if loaded::over_limit(image) {
         return image::IMAGE_WORDS;
     }
     let room = placing::room_of(image, table);

@@ -47,7 +47,7 @@ fn damaged(image: &[u32], load: Load) -> bool
     if !states::is_begun(phase) {
         return false;
     }
-    if image::over_limit(image) {
+    if loaded::over_limit(image) {
         return true;
     }
     overdue(image, load)

@@ -14,7 +14,7 @@ use Rattle.fields.specs.Fields.{vlanid, portVlanid, sharindx, partSpc, index}
 use Rattle.lookup.specs.Vlan.{vlanAt}
 use Rattle.promises.specs.First.{Test, test, First, first-is, only-first}
 use Rattle.promises.specs.First as numbered
-use Rattle.rules.specs.Broken.{vlanTwice, vlanMissing, sharindxBeyond, spaceOver, indexTwice}
+use Rattle.broken.specs.Broken.{vlanTwice, vlanMissing, sharindxBeyond, spaceOver, indexTwice}
 use Rattle.rules.specs.Rules.{Rule, rules, firstOf, ruled}
 
 -- ---- the paper's rows as predicates

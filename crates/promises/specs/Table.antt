@@ -11,8 +11,8 @@ use Rattle.fields.specs.Proved.{Packed, row-a, row-b}
 use Rattle.stream.specs.Header.{headerOf}
 use Rattle.stream.specs.declared.Header.the-variants.{Wrong, Right}
 use Rattle.stream.specs.Proved.{row-c, row-d, row-e}
-use Rattle.rules.specs.Broken.{spaceOver}
-use Rattle.rules.specs.Proved.{row-f, row-g}
+use Rattle.broken.specs.Broken.{spaceOver}
+use Rattle.broken.specs.Proved.{row-f, row-g}
 use Rattle.spend.specs.Meter.{refilled, cost}
 use Rattle.spend.specs.Proved.{row-h, row-i, row-j}
 use Rattle.fields.specs.Fields.{partSpc, ingress}

@@ -1,22 +1,19 @@
 -- Laws of a run of the rules, one after the other up to the first that is broken. None of them counts the rules.
--- Then what the tests of the rules lean on: a pass that marks values, and a search that finds none.
 use mathlib.Core.Path.{_≡_, refl, sym, _∙_, ap, subst}
-use mathlib.Core.Bool.{Bool, true, false, cond, not, _||_}
+use mathlib.Core.Bool.{Bool, true, false, cond, not}
 use mathlib.Core.List.{List, [], _∷_}
 use Prim.Native.Nat.{ℕ, zero, suc, _+_, _<_, _≤_}
-use native.Mathlib.Nat.{le-antisymm, le-refl, le-of-suc-le-suc, suc-le-suc-iff, not-suc-le-zero, zero-lt-suc}
-use native.Mathlib.Omega.{arith}
-use lib.Dec.{T, ltb, eqb}
+use native.Mathlib.Nat.{le-antisymm, le-of-suc-le-suc, suc-le-suc-iff, not-suc-le-zero, zero-lt-suc}
+use lib.Dec.{T, eqb}
 use lib.ListN.{length, getD, List·getD-eq-default}
-use borrow.Author.Tests.{eq-eqb, ne-eqb, ltb-true, ltb-false}
+use borrow.Author.Tests.{eq-eqb}
 use Rattle.laws.specs.Chain.{lt-of}
-use Rattle.laws.specs.Scan.{some-below, some-none, some-not, none-at, first, first-within, Counting, counting-end, Misses, misses-above}
+use Rattle.laws.specs.Scan.{some-none, some-not, none-at, Misses, misses-above}
 use Rattle.laws.specs.Table.{both, both-left, both-right}
 use Rattle.image.specs.Layout.{countOf}
 use Rattle.image.specs.Sound.{complete}
-use Rattle.image.specs.declared.tables.Table.the-variants.{VlanLookup, MacConfiguration, ForwardingParameters}
-use Rattle.fields.specs.Fields.{vlanid}
-use Rattle.rules.specs.Broken.{vlanTwice}
+use Rattle.image.specs.declared.tables.Table.the-variants.{MacConfiguration, ForwardingParameters}
+use Rattle.broken.specs.Passes.{again-twice}
 use Rattle.rules.specs.Rules.{Rule, rules, firstOf, ruled, ruleCount, blank, ruleAt, said, brokenBefore}
 
 -- ---- the first one broken, of any list of rules
@@ -106,37 +103,6 @@ ports-there image k i past e h = complete image (past-20 image k i past e h) .po
 
 pub spaces-there : (image : List ℕ) (k i : ℕ) → brokenBefore image k ≡ false → k ≡ i → 0 < i → countOf image ForwardingParameters ≡ 1
 spaces-there image k i past e h = complete image (past-20 image k i past e h) .spaces
-
--- ---- a pass over values that marks each
-
--- the pass came to its end n, which is the m that is asked
-pub counting-whole : (f : ℕ → ℕ) (size i sum n m : ℕ) (marks : List ℕ) → Counting f size i sum marks → n ≤ i → i ≤ n → n ≡ m → Counting f size m sum marks
-counting-whole f size i sum n m marks c a b e = subst (λ (k : ℕ). Counting f size k sum marks) (le-antisymm b a ∙ e) c
-
--- what one pass over 07 leaves: a mark for each of the 4,096 VLANIDs (12 bits), and how often one was set already
-abbrev pub Vlans : List ℕ → ℕ → List ℕ → Type 0
-Vlans image again marks = Counting (λ i. vlanid image i) 4096 (countOf image VlanLookup) again marks
-
-pub again-twice : (image : List ℕ) (again : ℕ) (marks : List ℕ) → Vlans image again marks → not (eqb again 0) ≡ vlanTwice image
-again-twice image again marks c = counting-end _ _ _ again _ _ marks c (le-refl _) (le-refl _) refl
-
--- ---- a search finds one exactly where there is one
-pub first-some : (n : ℕ) (p : ℕ → Bool) → some-below n p ≡ not (eqb (first n p) n)
-unfolding some-below first
-first-some zero p = refl
-first-some (suc n) p = by (first-some n p) (ltb (first n p) n) refl (p n)
-  where
-    here : (t : Bool) → t ≡ not (eqb (cond t n (suc n)) (suc n))
-    here true = sym (ap not (ne-eqb n (suc n) (λ q. omega arith)))
-    here false = sym (ap not (eq-eqb (suc n) (suc n) refl))
-
-    by : some-below n p ≡ not (eqb (first n p) n) → (s : Bool) → ltb (first n p) n ≡ s → (t : Bool)
-        → some-below n p || t ≡ not (eqb (cond s (first n p) (cond t n (suc n))) (suc n))
-    by h true e t =
-        let l = ltb-true (first n p) n e in
-        ap (λ (b : Bool). b || t) (h ∙ ap not (ne-eqb (first n p) n (λ q. omega arith))) ∙ sym (ap not (ne-eqb (first n p) (suc n) (λ q. omega arith)))
-    by h false e t =
-        ap (λ (b : Bool). b || t) (h ∙ ap not (eq-eqb (first n p) n (le-antisymm (first-within n p) (ltb-false (first n p) n e)))) ∙ here t
 
 -- for `search`: what an arm's test asks, and what an arm says
 pub ruleset asked = (ports-there, spaces-there)

@@ -1,13 +1,11 @@
 // The loading rules, run one after the other up to the first that is broken.
-pub mod broken;
-
-use crate::broken::VLANIDS;
+use broken::VLANIDS;
 ghost use mathlib.Core.Path.{_≡_};
 ghost use mathlib.Core.Bool.{false, cond};
 ghost use Rattle.image.specs.Layout.{imageIn};
 ghost use Rattle.image.specs.Sound.{Bounded};
 ghost use Rattle.rules.specs.Rules.{ruled, said, brokenBefore};
-ghost use Rattle.rules.specs.Run.{Vlans};
+ghost use Rattle.broken.specs.Passes.{Vlans};
 
 // A rule's number where it is broken, else 0.
 fn numbered(number: u32, broken: bool) -> u32
@@ -30,7 +28,7 @@ fn tested(image: &[u32], again: usize, marks: &[u8; VLANIDS], k: usize) -> u32
     ensures { λ r. ⌜ r ≡ said (imageIn (now (image .entry))) k ⌝ }
 {
     match k {
-        0 => return numbered(20, image::incomplete(image)),
+        0 => return numbered(20, loaded::incomplete(image)),
         1 => return numbered(21, again != 0),
         2 => return numbered(22, broken::vlan_missing(image, marks)),
         3 => return numbered(23, broken::sharindx_beyond(image)),

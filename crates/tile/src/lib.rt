@@ -20,7 +20,7 @@ pub fn tile(image: &[u32], row: &[u64; CELLS], port: usize) -> Asked
     if 4 < port {
         return Asked::Refused(33);
     }
-    if image::not_loaded(image) {
+    if loaded::not_loaded(image) {
         return Asked::Shown(Tile::NotLoaded);
     }
     if ledger::range::out_of_range(image, row) {
