@@ -1,12 +1,13 @@
 -- The rows in ascending block ID, for whoever wants that order: rows themselves stand in the order in which they landed.
 use mathlib.Core.Path.{_≡_, refl, sym, _∙_, ap}
-use mathlib.Core.Bool.{Bool, true, false, cond, _&&_, true≢false}
+use mathlib.Core.Bool.{Bool, true, cond, _&&_}
 use mathlib.Core.List.{List, [], _∷_}
 use Prim.Native.Nat.{ℕ, _+_, _<_}
 use native.Mathlib.Omega.{arith}
 use lib.Dec.{ltb, eqb}
 use lib.ListN.{length, getD}
 use borrow.Author.Tests.{ltb-true, lt-ltb, eqb-true}
+use Rattle.laws.specs.Chain.{both-passed}
 use Rattle.laws.specs.Scan.{every, every-at, first}
 use Rattle.image.specs.Rows.{Row, rows, blank, indexOf, tableCount}
 use Rattle.image.specs.RowLaws.{placed, same-place}
@@ -42,10 +43,6 @@ all-there : every tableCount (λ j. ltb (placeIn j) (length ascending) && eqb (i
 unfolding every first
 all-there = refl
 
-both : (a b : Bool) → (a && b) ≡ true → (a ≡ true) × (b ≡ true)
-both true b e = (refl, e)
-both false b e = absurd (true≢false (sym e))
-
 pub ascending-ascends : Ascends ascending
 ascending-ascends =
     record {
@@ -55,7 +52,7 @@ ascending-ascends =
           ∙ every-at tableCount k (λ i. cond (ltb (i + 1) tableCount) (ltb (getD ascending i blank .id) (getD ascending (i + 1) blank .id)) true) all-below (less k h));
       many = refl;
       all = λ t.
-          let there = both _ _ (every-at tableCount (indexOf t) (λ j. ltb (placeIn j) (length ascending) && eqb (indexOf (getD ascending (placeIn j) blank .table)) j) all-there (placed t .inside)) in
+          let there = both-passed _ _ (every-at tableCount (indexOf t) (λ j. ltb (placeIn j) (length ascending) && eqb (indexOf (getD ascending (placeIn j) blank .table)) j) all-there (placed t .inside)) in
           (placeIn (indexOf t), ltb-true _ _ (there .0), same-place _ t (eqb-true _ _ (there .1)));
     }
   where

@@ -6,14 +6,14 @@ use Rattle.image.specs.Rows.{Row, rows, startOf}
 use Rattle.image.specs.Layout.{entryWords, imageWords, markAt}
 
 -- "the image is the first 11,456 words": "11,430 of entries, 26 for counts and state"
-pub words-are : (entryWords ≡ 11430) × (imageWords ≡ 11456)
+words-are : (entryWords ≡ 11430) × (imageWords ≡ 11456)
 words-are = (refl, refl)
 
 -- where each row's entries start, then the counts, then the mark
-abbrev pub placesOf : List Row → List ℕ
+abbrev placesOf : List Row → List ℕ
 placesOf [] = entryWords ∷ markAt ∷ []
 placesOf (r ∷ rs) = startOf (r .table) ∷ placesOf rs
 
 -- D26, its table read from left to right
-pub places-are : placesOf rows ≡ 0 ∷ 3072 ∷ 3162 ∷ 11354 ∷ 11380 ∷ 11415 ∷ 11416 ∷ 11419 ∷ 11429 ∷ 11430 ∷ 11439 ∷ []
+places-are : placesOf rows ≡ 0 ∷ 3072 ∷ 3162 ∷ 11354 ∷ 11380 ∷ 11415 ∷ 11416 ∷ 11419 ∷ 11429 ∷ 11430 ∷ 11439 ∷ []
 places-are = refl

@@ -1,11 +1,12 @@
 -- What holds of every table, by the rows: a computed test over them, carried to the table by its place.
 use mathlib.Core.Path.{_≡_, refl, sym, _∙_, ap, subst}
-use mathlib.Core.Bool.{Bool, true, false, _&&_, true≢false}
+use mathlib.Core.Bool.{true, _&&_}
 use Prim.Native.Nat.{ℕ, suc, _+_, _*_, _<_, _≤_}
 use native.Mathlib.Nat.{le-refl, le-trans, add-le-add, mul-le-mul-right, mul-comm, suc-mul, add-assoc}
 use native.Mathlib.Omega.{arith}
 use lib.Dec.{ltb, leb, eqb, lit<}
 use borrow.Author.Tests.{ltb-true, leb-true, eqb-true}
+use Rattle.laws.specs.Chain.{both-passed}
 use Rattle.laws.specs.Scan.{every, every-at}
 use Rattle.image.specs.Rows.{rows, room, before, indexOf, tableCount, rowAt, rowOf, sizeOf, mostOf, startOf}
 use Rattle.image.specs.Layout.{entryWords, imageWords, countAt, markAt}
@@ -57,12 +58,9 @@ unfolding every
 all-small = refl
 
 small : (t : Table) → (mostOf t ≤ entryWords) × (sizeOf t ≤ entryWords)
-small t = by (leb (mostOf t) entryWords) (leb (sizeOf t) entryWords) refl refl (every-at tableCount (indexOf t) (λ k. leb (rowAt k .most) entryWords && leb (rowAt k .size) entryWords) all-small (placed t .inside))
-  where
-    by : (a b : Bool) → leb (mostOf t) entryWords ≡ a → leb (sizeOf t) entryWords ≡ b → (a && b) ≡ true → (mostOf t ≤ entryWords) × (sizeOf t ≤ entryWords)
-    by true true e d h = (leb-true _ entryWords e, leb-true _ entryWords d)
-    by true false e d h = absurd (true≢false (sym h))
-    by false b e d h = absurd (true≢false (sym h))
+small t =
+    let both = both-passed _ _ (every-at tableCount (indexOf t) (λ k. leb (rowAt k .most) entryWords && leb (rowAt k .size) entryWords) all-small (placed t .inside)) in
+    (leb-true _ entryWords (both .0), leb-true _ entryWords (both .1))
 
 -- the code's row of a table: what the rows say of it, and that it lies in the image
 pub record RowOf (t : Table) (r : CodeRow) : Type 0 where

@@ -1,7 +1,7 @@
 -- Chains of tests. A definition that answers by the first test that holds is a nested `cond`; an early return of the code meets it by
 -- one `hit` at the test that held and a `pass` at each test before it. `search (needs, chain)` finds them.
 use mathlib.Core.Path.{_≡_, refl, sym, _∙_, ap, subst}
-use mathlib.Core.Bool.{Bool, true, false, cond, not, true≢false}
+use mathlib.Core.Bool.{Bool, true, false, cond, not, _&&_, true≢false}
 use Prim.Native.Nat.{ℕ, suc, _<_, _≤_}
 use native.Mathlib.Nat.{suc-ne-zero}
 use lib.Dec.{ltb, leb, eqb}
@@ -95,6 +95,11 @@ zero-first false n y e = refl
 pub zero-rest : (t : Bool) (n y : ℕ) → cond t (suc n) y ≡ 0 → y ≡ 0
 zero-rest true n y e = absurd (suc-ne-zero n e)
 zero-rest false n y e = e
+
+-- two tests that passed as one passed each
+pub both-passed : (a b : Bool) → (a && b) ≡ true → (a ≡ true) × (b ≡ true)
+both-passed true b e = (refl, e)
+both-passed false b e = absurd (true≢false (sym e))
 
 -- A test of a number r that a call handed over is a test of what the call says r is.
 pub lt-of : (a b r : ℕ) → r ≡ b → a < r → a < b

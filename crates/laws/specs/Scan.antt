@@ -13,6 +13,7 @@ use lib.ListN.{length, getD, set, replicate, length-replicate, getD-replicate, l
 use lib.Seq.{getD-set-same, getD-set-other}
 use native.Mathlib.Decide.{ℕ-discrete}
 use borrow.Author.Tests.{lt-ltb, le-ltb, ltb-true, eq-eqb, ne-eqb}
+use Rattle.laws.specs.Chain.{both-passed}
 
 -- every index below n passes p
 unfoldable pub every : ℕ → (ℕ → Bool) → Bool
@@ -51,16 +52,8 @@ pub every-at : (n i : ℕ) (p : ℕ → Bool) → every n p ≡ true → i < n �
 unfolding every
 every-at zero i p e l = absurd (not-suc-le-zero l)
 every-at (suc n) i p e l =
-    ⊎-elim (λ q. subst (λ (k : ℕ). p k ≡ true) (sym q) (right (every n p) (p n) e)) (λ lt. every-at n i p (left (every n p) (p n) e) lt)
-    (eq-or-lt-of-le (le-of-suc-le-suc l))
-  where
-    left : (a b : Bool) → (a && b) ≡ true → a ≡ true
-    left true b q = refl
-    left false b q = q
-
-    right : (a b : Bool) → (a && b) ≡ true → b ≡ true
-    right true b q = q
-    right false b q = absurd (mathlib.Core.Bool.false≢true q)
+    let both = both-passed (every n p) (p n) e in
+    ⊎-elim (λ q. subst (λ (k : ℕ). p k ≡ true) (sym q) (both .1)) (λ lt. every-at n i p (both .0) lt) (eq-or-lt-of-le (le-of-suc-le-suc l))
 
 -- ---- the first
 pub first-none : (p : ℕ → Bool) → first 0 p ≡ 0

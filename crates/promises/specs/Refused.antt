@@ -1,7 +1,7 @@
 -- Demand 1, of writes: a load that a write refuses, in whatever state it stood, is left with an image all zero, and an answer that was told is repeated.
 -- And 30, which leaves everything as found, is for a write to a load that has begun: no whole load and no first write gives it.
 use mathlib.Core.Path.{_≡_, refl, sym, _∙_, ap, subst}
-use mathlib.Core.Bool.{Bool, true, false, cond, not, true≢false, false≢true}
+use mathlib.Core.Bool.{Bool, true, false, cond, not, _&&_, true≢false, false≢true}
 use mathlib.Core.List.{List, [], _∷_}
 use Prim.Native.Nat.{ℕ, _<_, _≤_}
 use native.Mathlib.Nat.{le-refl}
@@ -9,7 +9,7 @@ use lib.Dec.{ltb, eqb, lit<}
 use lib.ListN.{length, drop, replicate, length-replicate}
 use lib.Seq.{take-append-le, take-all}
 use borrow.Author.Tests.{ltb-true, eqb-false}
-use Rattle.laws.specs.Chain.{pass}
+use Rattle.laws.specs.Chain.{pass, both-passed}
 use Rattle.crc.specs.Crc.{wordIn, checksum, finished}
 use Rattle.image.specs.Layout.{imageWords, imageIn, imageOf, cleared, marked}
 use Rattle.image.specs.Loaded.{tooShort, overLimit}
@@ -169,16 +169,12 @@ first-write-never-30 l image e = ap (λ (t : Bool). cond t (cond (overLimit imag
 -- every number of some tests is below 30, as one computed test shows
 abbrev below : List Test → Bool
 below [] = true
-below (t ∷ ts) = cond (ltb (t .number) 30) (below ts) false
-
-here : (a b : Bool) → cond a b false ≡ true → (a ≡ true) × (b ≡ true)
-here true b e = (refl, e)
-here false b e = absurd (false≢true e)
+below (t ∷ ts) = ltb (t .number) 30 && below ts
 
 first-below : {ts : List Test} {n : ℕ} → below ts ≡ true → First ts n → n < 30
 first-below b unbroken = lit< tt
-first-below b (this {t} {ts} e) = ltb-true (t .number) 30 (here (ltb (t .number) 30) (below ts) b .0)
-first-below b (later {t} {ts} {n} e f) = first-below (here (ltb (t .number) 30) (below ts) b .1) f
+first-below b (this {t} {ts} e) = ltb-true (t .number) 30 (both-passed (ltb (t .number) 30) (below ts) b .0)
+first-below b (later {t} {ts} {n} e f) = first-below (both-passed (ltb (t .number) 30) (below ts) b .1) f
 
 abbrev Small : Framed → Type 0
 Small (refused n) = n < 30

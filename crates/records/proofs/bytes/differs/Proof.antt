@@ -1,4 +1,4 @@
--- `list_bytes::differs`: what is left of the question after i bytes is the whole question.
+-- `bytes::differs`: what is left of the question after i bytes is the whole question.
 use mathlib.Core.Path.{_≡_}
 use Prim.Native.Nat.{_-_, _≤_, zero-le}
 use native.Mathlib.Omega.{arith}

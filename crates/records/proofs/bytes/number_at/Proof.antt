@@ -1,4 +1,4 @@
--- `list_bytes::number_at`: after i bytes n is the number that they make.
+-- `bytes::number_at`: after i bytes n is the number that they make.
 use mathlib.Core.Path.{_≡_}
 use mathlib.Core.List.{[]}
 use Prim.Native.Nat.{_-_, _^_, _<_, _≤_, zero-le}
