@@ -4,7 +4,7 @@ use mathlib.Core.Bool.{Bool, true, false, cond, not}
 use mathlib.Core.List.{List, [], _∷_}
 use Prim.Native.Nat.{ℕ, _+_, _-_, _<_, _≤_}
 use native.Mathlib.Omega.{arith}
-use lib.Dec.{ltb, leb, eqb}
+use lib.Dec.{leb, eqb}
 use lib.ListN.{length, getD, drop}
 use lib.Seq.{sets}
 use borrow.Author.Tests.{ltb-false, leb-false, lt-ltb, eqb-true, not-false}
@@ -13,7 +13,7 @@ use Rattle.crc.specs.Crc.{wordsIn}
 use Rattle.crc_both.specs.declared.Both.{Both}
 use Rattle.image.specs.Layout.{imageWords}
 use Rattle.image.specs.Loaded.{tooShort}
-use Rattle.image.specs.Rows.{tableCount}
+use Rattle.image.specs.Rows.{indexOf, tableCount}
 use Rattle.image.specs.declared.tables.Table.{Table}
 use Rattle.stream.specs.Machine.{filling, Written, wrote}
 use Rattle.stream.specs.Paper.{Whole}
@@ -23,7 +23,7 @@ use Rattle.one_block.specs.Data.{dataPlace}
 use Rattle.stream.specs.Leaves.{Writes, Ends}
 use Rattle.stream.specs.declared.states.Wrote.{Wrote}
 use Rattle.one_block.proofs.Data.{DataWrite, data-write}
-use Rattle.flat_numbers.specs.Flat.{low, high, joined, phaseOf, tableOf, loadIn, isLoad, numbersOf, storedIn, moved, numberOf}
+use Rattle.flat_numbers.specs.Flat.{low, high, joined, phaseOf, tableOf, tableIn, loadIn, isState, isLoad, numbersOf, storedIn, moved, numberOf}
 use Rattle.flat_states.specs.Round.{joined-halves, put-back, table-kept}
 use Rattle.flat_loads.specs.Calls.{FlatWritten, flattened, asFoundFlat, wroteFlat, WritesFlat, EndsFlat}
 use Rattle.flat_loads.specs.Through.{of-state}
@@ -76,6 +76,7 @@ record Passed (c buffer : List ℕ) (n r : ℕ) : Type 0 where
   whole : tooShort buffer ≡ false
   in-block : low (getD c 0 0) ≡ 4
   table : low (getD c 1 0) < tableCount
+  own : loadIn c .table ≡ tableOf (low (getD c 1 0))
   is : r ≡ dataPlace buffer (loadIn c .table) (loadIn c .placed) (loadIn c .due) n
 
 all-failed : (x y z : Bool) (p : ℕ) → cond x imageWords (cond y imageWords (cond z imageWords p)) < imageWords
@@ -89,7 +90,15 @@ passed : (c buffer : List ℕ) (n r : ℕ) → r ≡ flatPlace c buffer n → r 
 unfolding flatPlace
 passed c buffer n r e h =
     let q = all-failed (tooShort buffer) (not (eqb (low (getD c 0 0)) 4)) (leb tableCount (low (getD c 1 0))) _ (subst (λ (x : ℕ). x < imageWords) e h) in
-    record { whole = q .0; in-block = eqb-true (low (getD c 0 0)) 4 (not-false (eqb (low (getD c 0 0)) 4) (q .1)); table = leb-false tableCount (low (getD c 1 0)) (q .2); is = e ∙ q .3 }
+    let here = eqb-true (low (getD c 0 0)) 4 (not-false (eqb (low (getD c 0 0)) 4) (q .1)) in
+    let own : loadIn c .table ≡ tableOf (low (getD c 1 0)) = ap (λ (p : ℕ). tableIn (phaseOf p (high (getD c 0 0))) (low (getD c 1 0))) here in
+    record {
+      whole = q .0;
+      in-block = here;
+      table = leb-false tableCount (low (getD c 1 0)) (q .2);
+      own = own;
+      is = e ∙ q .3 ∙ ap (λ (t : Table). dataPlace buffer t (getD c 2 0) (getD c 3 0) n) (sym own);
+    }
 
 -- ---- what the write leaves
 
@@ -110,14 +119,14 @@ module _ (c buffer words : List ℕ) (place : ℕ) (e : place ≡ flatPlace c bu
   by-data = data-write (loadIn c) buffer words place whole (ap (λ (n : ℕ). phaseOf n (high (getD c 0 0))) (passes .in-block)) (passes .is) h
 
   is-load : isLoad c ≡ true
-  is-load = ap (λ (n : ℕ). cond (ltb 5 n) false (ltb (low (getD c 1 0)) tableCount)) (passes .in-block) ∙ lt-ltb (low (getD c 1 0)) tableCount (passes .table)
+  is-load = ap (λ (n : ℕ). isState n (high (getD c 0 0)) (low (getD c 1 0))) (passes .in-block) ∙ lt-ltb (low (getD c 1 0)) tableCount (passes .table)
 
   -- inside a block the phase and the table are stored as they stand
   stays : (n s b : ℕ) → storedIn c (filling (loadIn c .table) (getD c 2 0 + n) (getD c 3 0 - n) s b) ≡ moved c n (joined s b)
   stays n s b =
       let vs : List ℕ = numbersOf c (filling (loadIn c .table) (getD c 2 0 + n) (getD c 3 0 - n) s b) in
       put-back c 0 _ (drop 1 vs) (ap (λ (p : ℕ). joined p (high (getD c 0 0))) (sym (passes .in-block)) ∙ joined-halves (getD c 0 0))
-      ∙ put-back c 1 _ (drop 2 vs) (table-kept _ _ (passes .table) ∙ joined-halves (getD c 1 0))
+      ∙ put-back c 1 _ (drop 2 vs) (ap (λ (t : Table). joined (indexOf t) (high (getD c 1 0))) (passes .own) ∙ table-kept _ _ (passes .table) ∙ joined-halves (getD c 1 0))
 
   pub flat-data : wroteFlat c buffer words ≡ record {
     answer = 0xFFFFFFFF;

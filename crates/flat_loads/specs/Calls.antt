@@ -1,5 +1,5 @@
--- What a write by numbers and a whole load answer and leave, over the forms of `stream`. Each promise permits one outcome.
-use mathlib.Core.Path.{_≡_, sym, _∙_}
+-- What a write by numbers and a whole load answer and leave, over the forms of `stream`.
+use mathlib.Core.Path.{_≡_}
 use mathlib.Core.Bool.{cond, not}
 use mathlib.Core.List.{List}
 use Prim.Native.Nat.{ℕ}
@@ -34,10 +34,6 @@ pub record WritesFlat (numbers buffer words : List ℕ) (r : ℕ) (after kept : 
   pub state : after ≡ wroteFlat numbers buffer words .numbers
   pub image : kept ≡ wroteFlat numbers buffer words .buffer
 
-pub one-write : (numbers buffer words : List ℕ) (r s : ℕ) (a b k m : List ℕ) → WritesFlat numbers buffer words r a k → WritesFlat numbers buffer words s b m
-    → (r ≡ s) × (a ≡ b) × (k ≡ m)
-one-write numbers buffer words r s a b k m p q = (p .answer ∙ sym (q .answer), p .state ∙ sym (q .state), p .image ∙ sym (q .image))
-
 -- ---- a whole load
 
 -- its answer's number and the buffer
@@ -45,17 +41,8 @@ pub record EndsFlat (w : Whole) (r : ℕ) (after : List ℕ) : Type 0 where
   pub told : r ≡ numberOf (w .answer)
   pub kept : after ≡ w .buffer
 
-one-end : (w : Whole) (r s : ℕ) (a b : List ℕ) → EndsFlat w r a → EndsFlat w s b → (r ≡ s) × (a ≡ b)
-one-end w r s a b p q = (p .told ∙ sym (q .told), p .kept ∙ sym (q .kept))
-
 abbrev pub LoadsWords : List ℕ → List ℕ → ℕ → List ℕ → Type 0
 LoadsWords buffer words r after = EndsFlat (loadedWords buffer words) r after
 
 abbrev pub LoadsBytes : List ℕ → List ℕ → ℕ → List ℕ → Type 0
 LoadsBytes buffer bytes r after = EndsFlat (loadedBytes buffer bytes) r after
-
-pub one-words : (buffer words : List ℕ) (r s : ℕ) (a b : List ℕ) → LoadsWords buffer words r a → LoadsWords buffer words s b → (r ≡ s) × (a ≡ b)
-one-words buffer words = one-end (loadedWords buffer words)
-
-pub one-bytes : (buffer bytes : List ℕ) (r s : ℕ) (a b : List ℕ) → LoadsBytes buffer bytes r a → LoadsBytes buffer bytes s b → (r ≡ s) × (a ≡ b)
-one-bytes buffer bytes = one-end (loadedBytes buffer bytes)

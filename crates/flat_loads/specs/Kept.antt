@@ -1,26 +1,33 @@
 -- What a write leaves are the numbers of a load state again, and this state is the one that `stream` gives: writes one after the other are
 -- writes to the state.
-use mathlib.Core.Path.{_≡_, _∙_, ap}
-use mathlib.Core.Bool.{Bool, true, false, cond}
+use mathlib.Core.Path.{_≡_, refl, _∙_, ap}
+use mathlib.Core.Bool.{Bool, true, false, cond, not}
 use mathlib.Core.List.{List, [], _∷_}
-use Prim.Native.Nat.{ℕ, suc, _<_}
-use native.Mathlib.Omega.{arith}
-use lib.Dec.{lit<}
+use Prim.Native.Nat.{ℕ, suc, _+_, _-_, _/_, _%_, _<_}
+use lib.Dec.{ltb, eqb, lit<}
 use lib.ListN.{length, getD}
 use lib.Seq.{length-sets}
-use Rattle.crc.specs.Crc.{wordIn, start}
+use borrow.Author.Tests.{eqb-false}
+use Rattle.crc.specs.Crc.{wordIn, start, finished, checksum}
 use Rattle.crc.specs.Laws.{wordIn-lt}
-use Rattle.image.specs.Layout.{imageIn, cleared}
+use Rattle.image.specs.Layout.{imageIn, cleared, marked}
+use Rattle.image.specs.Blocks.{blockOf}
+use Rattle.image.specs.Rows.{sizeOf, mostOf}
 use Rattle.image.specs.Loaded.{tooShort}
 use Rattle.image.specs.declared.tables.Table.{Table}
-use Rattle.stream.specs.Machine.{Machine, at, told, begins, stepIn, step, run, damaged, outside, untouched, written, opened, wrote}
+use Rattle.image.specs.declared.tables.Block.{Block}
+use Rattle.image.specs.declared.tables.Block.the-variants.{Carried, NotCarried, Unknown}
+use Rattle.rules.specs.Rules.{Rule, rules, firstOf, ruled}
+use Rattle.stream.specs.Header.{device, idOf, lengthOf, headerOf}
+use Rattle.stream.specs.Machine.{Machine, at, idle, filling, told, hadIn, begins, stepIn, step, run, damaged, outside, untouched, written, opened, wrote}
 use Rattle.stream.specs.declared.Header.{Header}
 use Rattle.stream.specs.declared.Header.the-variants.{Wrong, Right}
 use Rattle.stream.specs.declared.Phase.{Phase}
 use Rattle.stream.specs.declared.Phase.the-variants.{Device, Id, Length, Sum, Data, Told}
 use Rattle.stream.specs.declared.Load.{Load}
-use Rattle.flat_numbers.specs.Flat.{low, loadIn, isLoad, numbersOf, storedIn}
-use Rattle.flat_states.specs.Round.{Halves, state-back, is-state}
+use Rattle.flat_numbers.specs.Flat.{loadIn, isLoad, numbersOf, storedIn}
+use Rattle.flat_states.specs.Stored.{Storable}
+use Rattle.flat_states.specs.Round.{state-back, is-state, of-numbers}
 use Rattle.flat_loads.specs.Calls.{FlatWritten, wroteFlat}
 use Rattle.flat_loads.specs.Through.{of-state}
 
@@ -28,52 +35,103 @@ use Rattle.flat_loads.specs.Through.{of-state}
 abbrev pub Words : List ℕ → Type 0
 Words ws = (i : ℕ) → getD ws i 0 < 4294967296
 
--- ---- a word more keeps the state's numbers of 32 bits to them
+-- ---- a word more keeps the state one that six numbers hold
 
 record Kept (m : Machine) : Type 0 where
-  load : Halves (m .load)
+  load : Storable (m .load)
 
-answered : (n : ℕ) (buffer : List ℕ) → Kept (at (told n) buffer)
-answered n buffer = record { load = record { first = lit< tt; stream = lit< tt } }
+-- "more" is no number that a load tells
+abbrev Other : ℕ → Type 0
+Other n = n ≡ 0xFFFFFFFF → ⊥
 
--- outside a header
-plain : (p : Phase) (t : Table) (placed due s b : ℕ) (buffer : List ℕ) → s < 4294967296
-    → Kept (at (record { phase = p; table = t; placed = placed; due = due; first = 0; second = 0; stream = s; block = b }) buffer)
-plain p t placed due s b buffer h = record { load = record { first = lit< tt; stream = h } }
+other : (n : ℕ) → eqb n 0xFFFFFFFF ≡ false → Other n
+other n = eqb-false n 0xFFFFFFFF
+
+-- none of some rules has it
+abbrev Others : List Rule → Type 0
+Others [] = Unit {0}
+Others (r ∷ rs) = Other (r .number) × Others rs
+
+rule-other : (rs : List Rule) (image : List ℕ) → Others rs → Other (firstOf rs image)
+rule-other [] image h = other 0 refl
+rule-other (r ∷ rs) image h = go (r .broken image) (rule-other rs image (h .1))
+  where
+    go : (b : Bool) → Other (firstOf rs image) → Other (cond b (r .number) (firstOf rs image))
+    go true rest = h .0
+    go false rest = rest
+
+ruled-other : (image : List ℕ) → Other (ruled image)
+unfolding ruled
+ruled-other image = rule-other rules image (other 20 refl, (other 21 refl, (other 22 refl, (other 23 refl, (other 24 refl, (other 25 refl, tt))))))
+
+answered : (n : ℕ) (buffer : List ℕ) → Other n → Kept (at (told n) buffer)
+answered n buffer h = record { load = record { first = lit< tt; stream = lit< tt; outside = refl; answered = h } }
+
+-- in a block
+inside : (t : Table) (placed due s b : ℕ) (buffer : List ℕ) → s < 4294967296 → Kept (at (filling t placed due s b) buffer)
+inside t placed due s b buffer h = record { load = record { first = lit< tt; stream = h; outside = tt; answered = other 0 refl } }
+
+-- between blocks
+between : (s : ℕ) (buffer : List ℕ) → s < 4294967296 → Kept (at (idle s) buffer)
+between s buffer h = record { load = record { first = lit< tt; stream = h; outside = refl; answered = other 0 refl } }
 
 either : (b : Bool) (x y : Machine) → Kept x → Kept y → Kept (cond b x y)
 either true x y h k = h
 either false x y h k = k
 
-begun : (x : Header) (s n : ℕ) (buffer : List ℕ) → s < 4294967296 → Kept (begins x s n buffer)
-begun (Wrong number) s n buffer h = answered number (cleared buffer)
-begun (Right t) s n buffer h = plain Data t 0 n s start buffer h
+-- nor has a header's refusal
+abbrev Fair : Header → Type 0
+Fair (Wrong n) = Other n
+Fair (Right t) = Unit {0}
 
-in-phase : (p : Phase) (l : Load) (buffer : List ℕ) (w : ℕ) → w < 4294967296 → Halves l → wordIn start w < 4294967296 → wordIn (l .stream) w < 4294967296
+begun : (x : Header) (s n : ℕ) (buffer : List ℕ) → Fair x → s < 4294967296 → Kept (begins x s n buffer)
+begun (Wrong number) s n buffer f h = answered number (cleared buffer) f
+begun (Right t) s n buffer f h = inside t 0 n s start buffer h
+
+fair : (b : Block) (n : ℕ) (had : Table → ℕ) → Fair (headerOf b n had)
+fair Unknown n had = other 3 refl
+fair NotCarried n had = other 4 refl
+fair (Carried t) n had = go (not (eqb (n % sizeOf t) 0)) (ltb (mostOf t) (had t + n / sizeOf t))
+  where
+    go : (x y : Bool) → Fair (cond x (Wrong 5) (cond y (Wrong 6) (Right t)))
+    go true y = other 5 refl
+    go false true = other 6 refl
+    go false false = tt
+
+in-phase : (p : Phase) (l : Load) (buffer : List ℕ) (w : ℕ) → w < 4294967296 → Storable l → l .phase ≡ p → wordIn start w < 4294967296 → wordIn (l .stream) w < 4294967296
     → Kept (stepIn p l buffer w)
-in-phase Device l buffer w h o z s = search (either, answered, plain)
-in-phase Id l buffer w h o z s = record { load = record { first = h; stream = s } }
-in-phase Length l buffer w h o z s = record { load = record { first = o .first; stream = s } }
-in-phase Sum l buffer w h o z s = search (either, answered, plain, begun)
-in-phase Data l buffer w h o z s = search (either, answered, plain)
-in-phase (Told n) l buffer w h o z s = record { load = o }
+in-phase Device l buffer w h o e z s = either (not (eqb w device)) _ _ (answered 1 (cleared buffer) (other 1 refl)) (between (wordIn start w) buffer z)
+in-phase Id l buffer w h o e z s = record { load = record { first = h; stream = s; outside = refl; answered = other 0 refl } }
+in-phase Length l buffer w h o e z s = record { load = record { first = o .first; stream = s; outside = refl; answered = other 0 refl } }
+in-phase Sum l buffer w h o e z s =
+    either (eqb (lengthOf (l .second)) 0) _ _
+    (either (not (eqb w (finished (l .stream)))) _ _ (answered 8 (cleared buffer) (other 8 refl))
+    (either (eqb (ruled (imageIn (marked buffer))) 0) _ _ (answered 0 (marked buffer) (other 0 refl))
+    (answered (ruled (imageIn (marked buffer))) (cleared buffer) (ruled-other (imageIn (marked buffer))))))
+    (either (not (eqb w (checksum (l .first ∷ l .second ∷ [])))) _ _ (answered 2 (cleared buffer) (other 2 refl))
+    (begun (headerOf (blockOf (idOf (l .first))) (lengthOf (l .second)) (hadIn buffer)) (wordIn (l .stream) w) (lengthOf (l .second)) buffer
+    (fair (blockOf (idOf (l .first))) (lengthOf (l .second)) (hadIn buffer)) s))
+in-phase Data l buffer w h o e z s =
+    either (eqb (l .due) 0) _ _ (either (not (eqb w (finished (l .block)))) _ _ (answered 7 (cleared buffer) (other 7 refl)) (between (wordIn (l .stream) w) _ s))
+    (inside (l .table) (l .placed + 1) (l .due - 1) (wordIn (l .stream) w) (wordIn (l .block) w) _ s)
+in-phase (Told n) l buffer w h o e z s = record { load = o }
 
 step-kept : (m : Machine) (w : ℕ) → w < 4294967296 → Kept m → Kept (step m w)
 unfolding step
 step-kept m w h s =
-    in-phase (m .load .phase) (m .load) (m .buffer) w h (s .load) (wordIn-lt start w (lit< tt)) (wordIn-lt (m .load .stream) w (s .load .stream))
+    in-phase (m .load .phase) (m .load) (m .buffer) w h (s .load) refl (wordIn-lt start w (lit< tt)) (wordIn-lt (m .load .stream) w (s .load .stream))
 
 run-kept : (ws : List ℕ) (m : Machine) → Words ws → Kept m → Kept (run m ws)
 unfolding run
 run-kept [] m h s = s
 run-kept (w ∷ ws) m h s = run-kept ws (step m w) (λ i. h (suc i)) (step-kept m w (h 0) s)
 
-wrote-halves : (l : Load) (buffer words : List ℕ) → Words words → Halves l → Halves (wrote l buffer words .load)
+wrote-storable : (l : Load) (buffer words : List ℕ) → Words words → Storable l → Storable (wrote l buffer words .load)
 unfolding wrote
-wrote-halves l buffer words h s = by (tooShort buffer) (damaged l (imageIn buffer)) (outside (length words))
+wrote-storable l buffer words h s = by (tooShort buffer) (damaged l (imageIn buffer)) (outside (length words))
   where
     by : (x y z : Bool)
-        → Halves (cond x (untouched 31 l buffer) (cond y (untouched 30 l buffer) (cond z (untouched 32 l buffer) (written (run (opened l buffer) words)))) .load)
+        → Storable (cond x (untouched 31 l buffer) (cond y (untouched 30 l buffer) (cond z (untouched 32 l buffer) (written (run (opened l buffer) words)))) .load)
     by true y z = s
     by false true z = s
     by false false true = s
@@ -88,18 +146,16 @@ module _ (c buffer words : List ℕ) (six : length c ≡ 6) (state : isLoad c �
   unfolding next
   is = ap (λ (w : FlatWritten). w .numbers) (of-state c buffer words state)
 
-  fits : Halves next
+  fits : Storable next
   unfolding next
-  fits =
-      wrote-halves (loadIn c) buffer words small
-      (let low-lt : (n : ℕ) → low n < 4294967296 = λ n. omega arith in record { first = low-lt (getD c 4 0); stream = low-lt (getD c 5 0) })
+  fits = wrote-storable (loadIn c) buffer words small (of-numbers c state)
 
   pub state-after : loadIn (wroteFlat c buffer words .numbers) ≡ wrote (loadIn c) buffer words .load
   unfolding next
   state-after = ap loadIn is ∙ state-back c next six fits
 
   pub is-state-after : isLoad (wroteFlat c buffer words .numbers) ≡ true
-  is-state-after = ap isLoad is ∙ is-state c next six
+  is-state-after = ap isLoad is ∙ is-state c next six (fits .answered)
 
   pub six-after : length (wroteFlat c buffer words .numbers) ≡ 6
   six-after = ap length is ∙ length-sets c 0 (numbersOf c next) ∙ six

@@ -1,5 +1,6 @@
 -- What is promised of loads by numbers.
 pub mod Calls
+pub mod CallsLaws
 pub mod Through
 pub mod Kept
 pub mod Data

@@ -8,7 +8,8 @@ use Rattle.image.specs.Loaded.{tooShort}
 use Rattle.stream.specs.Machine.{Written, untouched, wrote}
 use Rattle.stream.specs.declared.Load.{Load}
 use Rattle.flat_numbers.specs.Flat.{loadIn, isLoad, storedIn}
-use Rattle.flat_states.specs.Round.{Halves, numbers-back, state-back, is-state}
+use Rattle.flat_states.specs.Stored.{Storable}
+use Rattle.flat_states.specs.Round.{numbers-back, state-back, is-state}
 use Rattle.flat_loads.specs.Calls.{FlatWritten, flattened, asFoundFlat, wroteFlat}
 
 -- numbers that no load state has: 30 after 31, everything as found
@@ -35,8 +36,8 @@ as-found c buffer words e kept =
     ap (λ (w : FlatWritten). w .numbers) (of-state c buffer words e) ∙ ap (storedIn c) kept ∙ numbers-back c e
 
 -- a write to a state's numbers is a write to the state
-pub through : (c : List ℕ) (l : Load) (buffer words : List ℕ) → length c ≡ 6 → Halves l
+pub through : (c : List ℕ) (l : Load) (buffer words : List ℕ) → length c ≡ 6 → Storable l
     → wroteFlat (storedIn c l) buffer words ≡ flattened (storedIn c l) (wrote l buffer words)
 through c l buffer words six fits =
-    of-state (storedIn c l) buffer words (is-state c l six)
+    of-state (storedIn c l) buffer words (is-state c l six (fits .answered))
     ∙ ap (λ (s : Load). flattened (storedIn c l) (wrote s buffer words)) (state-back c l six fits)

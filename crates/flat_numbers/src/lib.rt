@@ -2,15 +2,17 @@
 // fields to a number but for the words placed and due, low half first: phase and told, table, placed, due, first and second, stream and block. The
 // upper half of the second number is no part of the state.
 // The phase is 0 for word 0, which is also a load not yet begun; 1, 2, 3 for a block's two header words and their checksum; 4 for its data
-// and their checksum; 5 once an answer has been told, which is `told`. The table is its place in the rows.
+// and their checksum; 5 once an answer has been told, which is `told`. The table is its place in the rows; outside phase 4 nothing reads or writes it.
+use image::tables;
 use image::tables::TABLES;
+use image::tables::Table;
 use stream::Answer;
 use stream::Phase;
 ghost use mathlib.Core.Path.{_≡_};
 ghost use Prim.Native.Nat.{_<_};
-ghost use Rattle.flat_numbers.specs.Flat.{low, high, joined, phaseNumber, toldIn, phaseOf, isLoad, numberOf, FreshLoad};
+ghost use Rattle.flat_numbers.specs.Flat.{low, high, joined, phaseNumber, toldIn, placeIn, phaseOf, isLoad, numberOf, FreshLoad};
 
-// The number of "more", which document 01 gives none: no refusal has it.
+// The number of "more", which document 01 gives none. No load tells it as its answer, and no load state has been told it.
 pub const MORE: u32 = 0xFFFF_FFFF;
 
 // 2^32, by which a number is taken apart into its halves.
@@ -77,14 +79,35 @@ pub fn told_in(spare: u32, phase: Phase) -> u32
     }
 }
 
+// The place of a block's table; outside a block, `spare`.
+pub fn place_in(spare: u32, phase: Phase, table: Table) -> u32
+    ensures { λ r. ⌜ r ≡ placeIn spare phase table ⌝ }
+{
+    match phase {
+        Phase::Device => spare,
+        Phase::Id => spare,
+        Phase::Length => spare,
+        Phase::Sum => spare,
+        Phase::Data => tables::row_of(table).place as u32,
+        Phase::Told(_) => spare,
+    }
+}
+
 // Are these the numbers of a load state?
 pub fn is_load(numbers: &[u64; 6]) -> bool
     ensures { λ r. ⌜ r ≡ isLoad (now (numbers .entry)) ⌝ }
 {
-    if 5 < numbers[0] % HALF {
+    let phase = numbers[0] % HALF;
+    if 5 < phase {
         return false;
     }
-    ((numbers[1] % HALF) as usize) < TABLES
+    if phase == 5 {
+        return high(numbers[0]) != MORE;
+    }
+    if phase == 4 {
+        return ((numbers[1] % HALF) as usize) < TABLES;
+    }
+    true
 }
 
 pub fn phase_of(number: u64, told: u32) -> Phase

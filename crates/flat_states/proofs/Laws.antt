@@ -4,15 +4,14 @@ use mathlib.Core.List.{List, [], _∷_}
 use Prim.Native.Nat.{ℕ}
 use lib.ListN.{getD}
 use lib.Seq.{sets}
-use Rattle.image.specs.Rows.{indexOf}
 use Rattle.image.specs.declared.tables.Table.{Table}
 use Rattle.stream.specs.declared.Load.{Load}
 use Rattle.stream.specs.declared.Phase.{Phase}
-use Rattle.flat_numbers.specs.Flat.{low, high, joined, phaseNumber, toldIn, phaseOf, tableOf, loadIn, storedIn}
+use Rattle.flat_numbers.specs.Flat.{low, high, joined, phaseNumber, toldIn, placeIn, phaseOf, tableIn, loadIn, storedIn}
 
 -- ---- a state from its parts
 pub load-as : (c : List ℕ) (p : Phase) (t : Table) (told first second stream block : ℕ) → told ≡ high (getD c 0 0) → p ≡ phaseOf (low (getD c 0 0)) told
-    → t ≡ tableOf (low (getD c 1 0))
+    → t ≡ tableIn p (low (getD c 1 0))
     → first ≡ low (getD c 4 0)
     → second ≡ high (getD c 4 0)
     → stream ≡ low (getD c 5 0)
@@ -21,12 +20,12 @@ pub load-as : (c : List ℕ) (p : Phase) (t : Table) (told first second stream b
 load-as c p t told first second stream block a b d e f g h = cc
 
 -- ---- and its numbers from theirs
-pub stored-as : (c : List ℕ) (l : Load) (told spare phase table a b d e : ℕ) → told ≡ high (getD c 0 0) → spare ≡ high (getD c 1 0)
+pub stored-as : (c : List ℕ) (l : Load) (told stood spare phase table a b d e : ℕ) → told ≡ high (getD c 0 0) → stood ≡ low (getD c 1 0) → spare ≡ high (getD c 1 0)
     → phase ≡ phaseNumber (l .phase)
-    → table ≡ indexOf (l .table)
+    → table ≡ placeIn stood (l .phase) (l .table)
     → a ≡ joined phase (toldIn told (l .phase))
     → b ≡ joined table spare
     → d ≡ joined (l .first) (l .second)
     → e ≡ joined (l .stream) (l .block)
     → sets c 0 (a ∷ b ∷ l .placed ∷ l .due ∷ d ∷ e ∷ []) ≡ storedIn c l
-stored-as c l told spare phase table a b d e g h i j k m n o = cc
+stored-as c l told stood spare phase table a b d e g f h i j k m n o = cc

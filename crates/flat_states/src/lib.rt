@@ -7,13 +7,16 @@ use flat_numbers::joined;
 use flat_numbers::low;
 use flat_numbers::phase_number;
 use flat_numbers::phase_of;
+use flat_numbers::place_in;
 use flat_numbers::told_in;
 use image::tables;
+use image::tables::Table;
 use stream::Load;
+use stream::Phase;
 ghost use mathlib.Core.Path.{_≡_};
 ghost use Prim.Native.Nat.{_+_, _^_, _<_, _≤_};
 ghost use lib.ListN.{getD};
-ghost use Rattle.flat_numbers.specs.Flat.{joined, loadIn, storedIn, moved};
+ghost use Rattle.flat_numbers.specs.Flat.{joined, tableIn, loadIn, storedIn, moved};
 
 // A load state in its numbers.
 pub fn store(numbers: &mut [u64; 6], load: Load)
@@ -22,22 +25,38 @@ pub fn store(numbers: &mut [u64; 6], load: Load)
     let phase = load.phase;
     let table = load.table;
     let told = told_in(high(numbers[0]), phase);
+    let place = place_in(low(numbers[1]), phase, table);
     let spare = high(numbers[1]);
     numbers[0] = joined(phase_number(phase), told);
-    numbers[1] = joined(tables::row_of(table).place as u32, spare);
+    numbers[1] = joined(place, spare);
     numbers[2] = load.placed as u64;
     numbers[3] = load.due as u64;
     numbers[4] = joined(load.first, load.second);
     numbers[5] = joined(load.stream, load.block);
 }
 
+// The table of a place in the rows, in the data phase; in any other the fresh state's.
+fn table_in(phase: Phase, place: usize) -> Table
+    ensures { λ r. ⌜ r ≡ tableIn phase place ⌝ }
+{
+    match phase {
+        Phase::Device => Table::AddressLookup,
+        Phase::Id => Table::AddressLookup,
+        Phase::Length => Table::AddressLookup,
+        Phase::Sum => Table::AddressLookup,
+        Phase::Data => tables::table_at(place),
+        Phase::Told(_) => Table::AddressLookup,
+    }
+}
+
 // The load state of these numbers.
 pub fn load_in(numbers: &[u64; 6]) -> Load
     ensures { λ r. ⌜ r ≡ loadIn (now (numbers .entry)) ⌝ }
 {
+    let phase = phase_of(numbers[0] % HALF, high(numbers[0]));
     Load {
-        phase: phase_of(numbers[0] % HALF, high(numbers[0])),
-        table: tables::table_at((numbers[1] % HALF) as usize),
+        phase,
+        table: table_in(phase, (numbers[1] % HALF) as usize),
         placed: numbers[2] as usize,
         due: numbers[3] as usize,
         first: low(numbers[4]),

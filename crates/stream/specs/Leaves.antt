@@ -2,6 +2,7 @@
 use mathlib.Core.Path.{_≡_}
 use mathlib.Core.List.{List}
 use Prim.Native.Nat.{ℕ}
+use Rattle.stream.specs.Answers.{saidOf}
 use Rattle.stream.specs.Machine.{Machine, wrote}
 use Rattle.stream.specs.Paper.{Whole}
 use Rattle.stream.specs.declared.Answer.{Answer}
@@ -16,10 +17,12 @@ pub record Leaves (m : Machine) (load : Load) (buffer : List ℕ) : Type 0 where
 -- a write leaves its answer, the load state and the buffer as `wrote` says, for every load state, buffer and words
 pub record Writes (load : Load) (buffer words : List ℕ) (r : Wrote) (after : List ℕ) : Type 0 where
   pub answer : r .answer ≡ wrote load buffer words .answer
+  pub said : saidOf (r .answer) ≡ saidOf (wrote load buffer words .answer)
   pub state : r .load ≡ wrote load buffer words .load
   pub kept : after ≡ wrote load buffer words .buffer
 
 -- a whole load leaves this answer and this buffer
 pub record Ends (w : Whole) (answer : Answer) (after : List ℕ) : Type 0 where
   pub told : answer ≡ w .answer
+  pub said : saidOf answer ≡ saidOf (w .answer)
   pub kept : after ≡ w .buffer

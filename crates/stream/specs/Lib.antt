@@ -1,4 +1,5 @@
 -- Loading: the paper's form, the machine's form, and the bridge between them.
+pub mod Answers
 pub mod Header
 pub mod Paper
 pub mod Machine

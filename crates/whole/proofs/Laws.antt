@@ -16,6 +16,7 @@ use Rattle.stream.specs.Ends.{settledIn, settled, whole}
 use Rattle.stream.specs.declared.Answer.{Answer}
 use Rattle.stream.specs.declared.Phase.{Phase}
 use Rattle.stream.specs.declared.Load.{Load}
+use Rattle.stream.specs.Answers.{saidOf}
 use Rattle.stream.specs.Leaves.{Ends}
 use Rattle.stream.specs.Runs.{run-append}
 
@@ -30,7 +31,7 @@ unfolding loadedWords
 words-on buffer ws short e h = whole buffer ws ∙ pass short _ _ _ _ e h refl
 
 pub ends-as : {v w : Whole} {r : Answer} {after : List ℕ} → v ≡ w → Ends v r after → Ends w r after
-ends-as e h = record { told = h .told ∙ ap (λ (x : Whole). x .answer) e; kept = h .kept ∙ ap (λ (x : Whole). x .buffer) e }
+ends-as e h = record { told = h .told ∙ ap (λ (x : Whole). x .answer) e; said = h .said ∙ ap (λ (x : Whole). saidOf (x .answer)) e; kept = h .kept ∙ ap (λ (x : Whole). x .buffer) e }
 
 -- a fresh load over the cleared buffer
 pub started : (l : Load) (b buffer : List ℕ) → l ≡ fresh → b ≡ cleared buffer → at l b ≡ at fresh (cleared buffer)

@@ -28,7 +28,7 @@ load-in-spec =
     (λ c.
     let t = c .before .before .before .before .before .before .before .before .before .before in
     let p = t .before .before in
-    load-as (now (p .before .before .before .before .args .numbers)) _ _ _ _ _ _ _ (p .before .high .ensures) (p .phase-of .ensures) (t .table-at .ensures)
+    load-as (now (p .before .before .before .before .args .numbers)) _ _ _ _ _ _ _ (p .before .high .ensures) (p .phase-of .ensures) (t .table-in .ensures)
     (c .before .before .before .before .before .before .low .ensures)
     (c .before .before .before .before .high2 .ensures)
     (c .before .before .low2 .ensures)

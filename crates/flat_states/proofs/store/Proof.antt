@@ -17,8 +17,9 @@ store-spec =
     (λ c. search needs)
     (λ c κs. search needs)
     (λ c κs. search needs)
-    (λ c κs. search needs)
     (λ c. search needs)
+    (λ c κs. search needs)
+    (λ c κs. search needs)
     (λ c κs. search needs)
     (λ c. search needs)
     (λ c κs. search needs)
@@ -30,13 +31,15 @@ store-spec =
     (λ c κs. search needs)
     (λ c. search needs)
     (λ c.
-    let p = c .before .before .before .before .before .before in
-    let t = p .before .before .before in
-    stored-as (now (t .before .before .before .args .numbers)) (t .before .before .before .args .load) _ _ _ _ _ _ _ _ (t .before .high .ensures)
+    let p = c .before .before .before .before in
+    let s = p .before .before .before in
+    let t = s .before .before .before in
+    stored-as (now (t .before .before .before .args .numbers)) (t .before .before .before .args .load) _ _ _ _ _ _ _ _ _ (t .before .high .ensures)
+    (s .before .low .ensures)
     (p .before .high2 .ensures)
     (p .phase-number .ensures)
-    (c .before .before .before .before .row-of .ensures .place)
-    (c .before .before .before .before .before .joined .ensures ∙ ap (joined (p .phase-number .result)) (t .told-in .ensures))
+    (s .place-in .ensures)
+    (c .before .before .before .joined .ensures ∙ ap (joined (p .phase-number .result)) (t .told-in .ensures))
     (c .before .before .joined2 .ensures)
     (c .before .joined3 .ensures)
     (c .joined4 .ensures)))

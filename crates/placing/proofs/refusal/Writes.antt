@@ -13,6 +13,7 @@ use Rattle.stream.specs.Machine.{at, run, begun, damaged, outside, untouched, o
 use Rattle.stream.specs.declared.Phase.{Phase}
 use Rattle.stream.specs.declared.Phase.the-variants.{Device, Id, Length, Sum, Data, Told}
 use Rattle.stream.specs.declared.Load.{Load}
+use Rattle.stream.specs.Answers.{saidOf}
 use Rattle.stream.specs.Leaves.{Leaves, Writes}
 use Rattle.placing.specs.Refusal.{writeRefusal}
 use Rattle.stream.specs.declared.states.Wrote.{Wrote}
@@ -27,6 +28,7 @@ wrote-as : (l : Load) (buffer ws after : List ℕ) (r : Wrote) (v : Written) →
 wrote-as l buffer ws after r v e a s b =
     record {
       answer = a ∙ ap (λ (x : Written). x .answer) e;
+      said = ap saidOf (a ∙ ap (λ (x : Written). x .answer) e);
       state = s ∙ ap (λ (x : Written). x .load) e;
       kept = b ∙ ap (λ (x : Written). x .buffer) e;
     }

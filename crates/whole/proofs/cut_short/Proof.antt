@@ -10,4 +10,4 @@ cut-short-spec =
     (tie.spec
     (λ c κs. search needs)
     (λ c. c .before .before .clear .kept .0)
-    (λ c. record { told = refl; kept = c .before .before .clear .ensures }))
+    (λ c. record { told = refl; said = refl; kept = c .before .before .clear .ensures }))

@@ -17,9 +17,9 @@ load-bytes-spec =
     (tie.spec
     (λ c κs. search needs)
     (λ c. search needs)
-    (λ c. let a = c .before .before .before .before .before .args in ends-as (bytes-31 (now (a .image)) (now (a .bytes)) _ (c .before .too-short .ensures) (c .if1 .taken)) (record { told = refl; kept = refl }))
+    (λ c. let a = c .before .before .before .before .before .args in ends-as (bytes-31 (now (a .image)) (now (a .bytes)) _ (c .before .too-short .ensures) (c .if1 .taken)) (record { told = refl; said = refl; kept = refl }))
     (λ c. search needs)
-    (λ c. let a = c .before .before .before .before .before .before .args in ends-as (bytes-9 (now (a .image)) (now (a .bytes)) _ (c .before .before .too-short .ensures) (c .before .if1 .left) (c .if2 .taken)) (record { told = refl; kept = refl }))
+    (λ c. let a = c .before .before .before .before .before .before .args in ends-as (bytes-9 (now (a .image)) (now (a .bytes)) _ (c .before .before .too-short .ensures) (c .before .if1 .left) (c .if2 .taken)) (record { told = refl; said = refl; kept = refl }))
     (λ c κs. has-room (now (c .before .before .before .before .before .before .before .args .image)) _ (c .before .before .before .too-short .ensures) (c .before .before .if1 .left))
     (λ c κs. subst (λ (n : ℕ). imageWords ≤ n) (sym (c .before .before .before .bytes-run .kept .0)) (has-room (now (c .before .before .before .before .before .before .before .before .before .before .before .args .image)) _ (c .before .before .before .before .before .before .before .too-short .ensures) (c .before .before .before .before .before .before .if1 .left)))
     (λ c. c .before .before .settle .kept .0 ∙ c .before .before .before .before .before .before .bytes-run .kept .0)

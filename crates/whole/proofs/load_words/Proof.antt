@@ -17,7 +17,7 @@ load-words-spec =
     (tie.spec
     (λ c κs. search needs)
     (λ c. search needs)
-    (λ c. let a = c .before .before .before .before .before .args in ends-as (words-31 (now (a .image)) (now (a .words)) _ (c .before .too-short .ensures) (c .if1 .taken)) (record { told = refl; kept = refl }))
+    (λ c. let a = c .before .before .before .before .before .args in ends-as (words-31 (now (a .image)) (now (a .words)) _ (c .before .too-short .ensures) (c .if1 .taken)) (record { told = refl; said = refl; kept = refl }))
     (λ c κs. has-room (now (c .before .before .before .before .before .before .args .image)) _ (c .before .before .too-short .ensures) (c .before .if1 .left))
     (λ c κs. subst (λ (n : ℕ). imageWords ≤ n) (sym (c .before .before .before .fresh-run .kept .0)) (has-room (now (c .before .before .before .before .before .before .before .before .before .before .args .image)) _ (c .before .before .before .before .before .before .too-short .ensures) (c .before .before .before .before .before .if1 .left)))
     (λ c. c .before .before .settle .kept .0 ∙ c .before .before .before .before .before .before .fresh-run .kept .0)

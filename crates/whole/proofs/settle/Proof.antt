@@ -1,7 +1,8 @@
 -- `whole::settle`: by the phase.
-use mathlib.Core.Path.{refl}
+use mathlib.Core.Path.{refl, ap}
 use borrow.Author.Needs.{needs}
 use denote.Ref.{now}
+use Rattle.stream.specs.Answers.{saidOf}
 use Rattle.whole.proofs.Laws.{settles}
 use Rattle.whole.proofs.settle.Statement.{statement}
 use Rattle.whole.proofs.settle.Tie as tie
@@ -32,4 +33,4 @@ settle-spec =
     (λ c. let a = c .before .before .before .before .before .before .before .args in settles (a .load) (now (a .image)) _ _ _ (c .before .before .before .before .enum-told4 .given .1) (c .before .before .cut-short4 .ensures))
     (λ c. c .before .before .cut-short5 .kept .0)
     (λ c. let a = c .before .before .before .before .before .before .before .args in settles (a .load) (now (a .image)) _ _ _ (c .before .before .before .before .enum-told5 .given .1) (c .before .before .cut-short5 .ensures))
-    (λ c. let a = c .before .before .before .before .before .args in settles (a .load) (now (a .image)) _ _ _ (c .before .before .phase .given .1) (record { told = c .numbered .ensures; kept = refl })))
+    (λ c. let a = c .before .before .before .before .before .args in settles (a .load) (now (a .image)) _ _ _ (c .before .before .phase .given .1) (record { told = c .numbered .ensures; said = ap saidOf (c .numbered .ensures); kept = refl })))
