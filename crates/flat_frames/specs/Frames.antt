@@ -4,6 +4,7 @@ use mathlib.Core.List.{List}
 use Prim.Native.Nat.{ℕ}
 use Rattle.ledger.specs.declared.Answer.{Answer}
 use Rattle.ledger.specs.Answers.{numberOf}
+use Rattle.ledger.specs.AnswersLaws.{numbered}
 use Rattle.ledger.specs.Range.{unloaded}
 use Rattle.row.specs.Fresh.{freshened, Freshened}
 use Rattle.row.specs.Release.{releaseRefusal, released, Released}
@@ -21,7 +22,7 @@ pub record FreshensFlat (buffer : List ℕ) (r : ℕ) (after : List ℕ) : Type 
   pub row : after ≡ freshened buffer
 
 pub freshens : (buffer : List ℕ) (a : Answer) (r : ℕ) (after : List ℕ) → Freshened buffer a after → r ≡ numberOf a → FreshensFlat buffer r after
-freshens buffer a r after p e = record { number = e ∙ p .number; row = p .row }
+freshens buffer a r after p e = record { number = e ∙ ap numberOf (p .answer) ∙ numbered (unloaded buffer); row = p .row }
 
 pub one-fresh : (buffer : List ℕ) (r s : ℕ) (a b : List ℕ) → FreshensFlat buffer r a → FreshensFlat buffer s b → (r ≡ s) × (a ≡ b)
 one-fresh buffer r s a b p q = (p .number ∙ sym (q .number), p .row ∙ sym (q .row))
@@ -48,7 +49,7 @@ pub record ReleasesFlat (buffer g : List ℕ) (partition r : ℕ) (after : List 
 
 pub releases : (buffer g : List ℕ) (partition : ℕ) (a : Answer) (r : ℕ) (after : List ℕ) → Released buffer g partition a after → r ≡ numberOf a
     → ReleasesFlat buffer g partition r after
-releases buffer g partition a r after p e = record { number = e ∙ p .number; row = p .row }
+releases buffer g partition a r after p e = record { number = e ∙ ap numberOf (p .answer) ∙ numbered (releaseRefusal buffer g partition); row = p .row }
 
 pub one-released : (buffer g : List ℕ) (partition r s : ℕ) (a b : List ℕ) → ReleasesFlat buffer g partition r a → ReleasesFlat buffer g partition s b
     → (r ≡ s) × (a ≡ b)

@@ -6,5 +6,6 @@ pub mod Pins
 pub mod RowLaws
 pub mod Ascending
 pub mod Loaded
+pub mod Standing
 pub mod Images
 pub mod Sound

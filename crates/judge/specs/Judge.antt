@@ -4,6 +4,7 @@ use mathlib.Core.Bool.{cond}
 use mathlib.Core.List.{List, [], _∷_}
 use Prim.Native.Nat.{ℕ}
 use lib.Dec.{eqb}
+use Rattle.laws.specs.Says.{Says, says}
 use Rattle.image.specs.Layout.{imageIn}
 use Rattle.frame.specs.Bytes.{octetsOf}
 use Rattle.plan.specs.declared.enter.Entered.{Entered}
@@ -18,18 +19,12 @@ use Rattle.settle.specs.Settle.{Judged, judged, carriedOut}
 use Rattle.settle.specs.Note.{isDrop, noted}
 use Rattle.judge.specs.Refusal.{refusalOf}
 
--- document 01's number for each case: the refusal's, the drop's, 0 for sent
-abbrev pub numberOf : Verdict → ℕ
-numberOf (Refused n) = n
-numberOf (Drop n) = n
-numberOf (Sent s) = 0
-
--- and its values, as the program prints them: ports, VLAN, q, tags and the five queues; none unless sent
-abbrev pub valuesOf : Verdict → List ℕ
-valuesOf (Refused n) = []
-valuesOf (Drop n) = []
-valuesOf (Sent s) =
-    s .ports ∷ s .vlan ∷ s .priority ∷ s .tags ∷ s .queue0 ∷ s .queue1 ∷ s .queue2 ∷ s .queue3 ∷ s .queue4 ∷ []
+-- what a verdict says in document 01's terms: the refusal's number; the drop's; or, as the program prints them, ports, VLAN, q, tags and the five queues
+abbrev pub saidOf : Verdict → Says
+saidOf (Refused n) = says 0 n []
+saidOf (Drop n) = says 1 n []
+saidOf (Sent s) =
+    says 2 0 (s .ports ∷ s .vlan ∷ s .priority ∷ s .tags ∷ s .queue0 ∷ s .queue1 ∷ s .queue2 ∷ s .queue3 ∷ s .queue4 ∷ [])
 
 -- a frame's own plan: the drop of steps 1 to 6, or the plan on the VLAN that it came in on
 abbrev pub byEntry : List ℕ → ℕ → List ℕ → Entered → Planned
@@ -52,6 +47,5 @@ judgeOf buffer g port time frame =
 -- what a frame's call answers and leaves
 pub record Judges (buffer g : List ℕ) (port time : ℕ) (frame : List ℕ) (r : Verdict) (after : List ℕ) : Type 0 where
   pub verdict : r ≡ judgeOf buffer g port time frame .verdict
-  pub number : numberOf r ≡ numberOf (judgeOf buffer g port time frame .verdict)
-  pub values : valuesOf r ≡ valuesOf (judgeOf buffer g port time frame .verdict)
+  pub said : saidOf r ≡ saidOf (judgeOf buffer g port time frame .verdict)
   pub row : after ≡ judgeOf buffer g port time frame .row

@@ -30,7 +30,7 @@ use Rattle.settle.specs.Note.{isDrop, noted}
 use Rattle.settle.specs.Laws.{Runs, RunsAll}
 use Rattle.settle.specs.Countable.{Countable}
 use Rattle.judge.specs.Refusal.{mistimed, unjudged, refusalOf}
-use Rattle.judge.specs.Judge.{numberOf, valuesOf, byEntry, planFor, notedOf, judgeOf, Judges}
+use Rattle.judge.specs.Judge.{saidOf, byEntry, planFor, notedOf, judgeOf, Judges}
 
 -- ---- what is admitted
 
@@ -109,8 +109,7 @@ judges : (buffer g : List ℕ) (port time : ℕ) (frame : List ℕ) (r : Verdict
 judges buffer g port time frame r after q =
     record {
       verdict = ap (λ (j : Judged). j .verdict) q;
-      number = ap (λ (j : Judged). numberOf (j .verdict)) q;
-      values = ap (λ (j : Judged). valuesOf (j .verdict)) q;
+      said = ap (λ (j : Judged). saidOf (j .verdict)) q;
       row = ap (λ (j : Judged). j .row) q;
     }
 

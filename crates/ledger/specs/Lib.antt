@@ -4,4 +4,5 @@ pub mod Range
 pub mod Laws
 pub mod Above
 pub mod Answers
+pub mod AnswersLaws
 pub mod Proved

@@ -1,2 +1,3 @@
 -- A ledger brought up to date by a record.
 pub mod Brings
+pub mod BringsLaws

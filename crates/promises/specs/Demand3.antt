@@ -31,7 +31,8 @@ use Rattle.settle.specs.Settle.{Judged}
 use Rattle.judge.specs.Judge.{judgeOf}
 use Rattle.judge.specs.Proved.{same-judgement}
 use Rattle.tile.specs.declared.shares.Asked.{Asked}
-use Rattle.tile.specs.Tiles.{askedOf, same-tile}
+use Rattle.tile.specs.Tiles.{askedOf}
+use Rattle.tile.specs.TilesLaws.{same-tile}
 use Rattle.kept.specs.History.{Event, frame, release, step}
 
 -- ---- the answer and the image

@@ -15,10 +15,12 @@ use Rattle.settle.specs.declared.Verdict.{Verdict}
 use Rattle.judge.specs.Judge.{Judges}
 use Rattle.judge.specs.Laws.{one-judgement}
 use Rattle.tile.specs.declared.shares.Asked.{Asked}
-use Rattle.tile.specs.Tiles.{Tiled, one-answer}
+use Rattle.tile.specs.Tiles.{Tiled}
+use Rattle.tile.specs.TilesLaws.{one-answer}
 use Rattle.lent.specs.declared.Event.{Event}
 use Rattle.lent.specs.declared.Told.{Told}
-use Rattle.lent.specs.Brings.{Brings, one-told}
+use Rattle.lent.specs.Brings.{Brings}
+use Rattle.lent.specs.BringsLaws.{one-told}
 use Rattle.records.specs.declared.Record.{Record}
 use Rattle.records.specs.List.{standsAt}
 use Rattle.records.specs.Answer.{told}
@@ -26,7 +28,8 @@ use Rattle.records.specs.Promises as records
 use Rattle.flat_answers.specs.declared.FlatVerdict.{FlatVerdict}
 use Rattle.flat_answers.specs.declared.FlatTile.{FlatTile}
 use Rattle.flat_lists.specs.declared.FlatRecord.{FlatRecord}
-use Rattle.flat_numbers.specs.Flat.{FreshLoad, one-fresh-load}
+use Rattle.flat_numbers.specs.Flat.{FreshLoad}
+use Rattle.flat_numbers.specs.FlatLaws.{one-fresh-load}
 use Rattle.flat_loads.specs.Calls.{WritesFlat, LoadsWords, LoadsBytes}
 use Rattle.flat_loads.specs.Calls as loads
 use Rattle.flat_frames.specs.Frames.{FreshensFlat, JudgesFlat, ReleasesFlat, TilesFlat}

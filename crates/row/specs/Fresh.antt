@@ -18,7 +18,7 @@ use Rattle.ledger.specs.declared.Answer.{Answer}
 use Rattle.ledger.specs.declared.Answer.the-variants.{Refused, Done}
 use Rattle.ledger.specs.Row.{units, credit, since, last, start, many, cellCount, put}
 use Rattle.ledger.specs.Range.{unitsOver, fullOf, creditOver, tilesOff, timesOver, outOfRange, unloaded}
-use Rattle.ledger.specs.Answers.{answerOf, numberOf}
+use Rattle.ledger.specs.Answers.{answerOf, saidOf}
 
 -- f of each index below n, in order
 unfoldable pub table : ℕ → (ℕ → ℕ) → List ℕ
@@ -62,7 +62,7 @@ freshened buffer = cond (eqb (unloaded buffer) 0) (freshOf (imageIn buffer)) noL
 -- what a fresh ledger's call answers and leaves
 pub record Freshened (buffer : List ℕ) (r : Answer) (after : List ℕ) : Type 0 where
   pub answer : r ≡ answerOf (unloaded buffer)
-  pub number : numberOf r ≡ unloaded buffer
+  pub said : saidOf r ≡ saidOf (answerOf (unloaded buffer))
   pub row : after ≡ freshened buffer
 
 -- ---- part by part
@@ -157,11 +157,13 @@ fresh-end image row k n l e h =
 -- a number n that 31 and 30 come to refuses, or does not
 pub not-fresh : (buffer : List ℕ) (n : ℕ) (after : List ℕ) → n ≡ unloaded buffer → (n ≡ 0 → ⊥) → after ≡ noLedger → Freshened buffer (Refused n) after
 not-fresh buffer n after e z h =
-    record { answer = not-zero _ _ _ _ _ e z (ap Refused e); number = e; row = not-zero _ _ _ _ _ e z h }
+    let a : Refused n ≡ answerOf (unloaded buffer) = not-zero _ _ _ _ _ e z (ap Refused e) in
+    record { answer = a; said = ap saidOf a; row = not-zero _ _ _ _ _ e z h }
 
 pub is-fresh : (buffer : List ℕ) (n : ℕ) (after : List ℕ) → n ≡ unloaded buffer → n ≡ 0 → after ≡ freshOf (imageIn buffer) → Freshened buffer Done after
 is-fresh buffer n after e z h =
-    record { answer = at-zero _ _ _ _ _ e z refl; number = sym z ∙ e; row = at-zero _ _ _ _ _ e z h }
+    let a : Done ≡ answerOf (unloaded buffer) = at-zero _ _ _ _ _ e z refl in
+    record { answer = a; said = ap saidOf a; row = at-zero _ _ _ _ _ e z h }
 
 -- nobody who forgets the answer gets a judged bench: 39 refuses what a refused call gives, under every image
 pub refused-everywhere : (image : List ℕ) → outOfRange image noLedger ≡ true

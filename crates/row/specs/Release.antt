@@ -14,7 +14,7 @@ use Rattle.ledger.specs.declared.Answer.the-variants.{Refused, Done}
 use Rattle.ledger.specs.Row.{units, many, cell, put}
 use Rattle.ledger.specs.Range.{standing}
 use Rattle.ledger.specs.Laws.{part-spc-small, Stands, stands}
-use Rattle.ledger.specs.Answers.{answerOf, numberOf}
+use Rattle.ledger.specs.Answers.{answerOf, saidOf}
 
 -- 36, 37; 0 where neither refuses
 abbrev pub unreleased : List ℕ → List ℕ → ℕ → ℕ
@@ -38,7 +38,7 @@ released buffer g partition = cond (eqb (releaseRefusal buffer g partition) 0) (
 -- what a release answers and leaves
 pub record Released (buffer g : List ℕ) (partition : ℕ) (r : Answer) (after : List ℕ) : Type 0 where
   pub answer : r ≡ answerOf (releaseRefusal buffer g partition)
-  pub number : numberOf r ≡ releaseRefusal buffer g partition
+  pub said : saidOf r ≡ saidOf (answerOf (releaseRefusal buffer g partition))
   pub row : after ≡ released buffer g partition
 
 -- a partition of the eight with room for a unit
@@ -77,9 +77,13 @@ has-room buffer g partition n e z = releasable buffer g partition (sym e ∙ z) 
 
 pub not-released : (buffer g : List ℕ) (partition n : ℕ) → n ≡ releaseRefusal buffer g partition → (n ≡ 0 → ⊥) → Released buffer g partition (Refused n) g
 unfolding released
-not-released buffer g partition n e z = record { answer = not-zero _ _ _ _ _ e z (ap Refused e); number = e; row = not-zero _ _ _ _ _ e z refl }
+not-released buffer g partition n e z =
+    let a : Refused n ≡ answerOf (releaseRefusal buffer g partition) = not-zero _ _ _ _ _ e z (ap Refused e) in
+    record { answer = a; said = ap saidOf a; row = not-zero _ _ _ _ _ e z refl }
 
 pub is-released : (buffer g : List ℕ) (partition n : ℕ) (after : List ℕ) → n ≡ releaseRefusal buffer g partition → n ≡ 0 → after ≡ givenTo g partition
     → Released buffer g partition Done after
 unfolding released
-is-released buffer g partition n after e z h = record { answer = at-zero _ _ _ _ _ e z refl; number = sym z ∙ e; row = at-zero _ _ _ _ _ e z h }
+is-released buffer g partition n after e z h =
+    let a : Done ≡ answerOf (releaseRefusal buffer g partition) = at-zero _ _ _ _ _ e z refl in
+    record { answer = a; said = ap saidOf a; row = at-zero _ _ _ _ _ e z h }

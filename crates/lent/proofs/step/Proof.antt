@@ -1,6 +1,6 @@
 -- `lent::step`: by the event's case.
 use borrow.Author.Needs.{needs}
-use Rattle.lent.specs.Brings.{frame-brings, release-brings}
+use Rattle.lent.specs.BringsLaws.{frame-brings, release-brings}
 use Rattle.lent.proofs.step.Statement.{statement}
 use Rattle.lent.proofs.step.Tie as tie
 

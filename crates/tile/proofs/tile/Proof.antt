@@ -5,7 +5,8 @@ use denote.Ref.{now}
 use Rattle.laws.specs.Chain.{hit, pass, hit-lt, pass-lt}
 use Rattle.image.specs.Sound.{sound, has-room}
 use Rattle.tile.specs.declared.shares.Asked.the-variants.{Shown}
-use Rattle.tile.specs.Tiles.{askedOf, tiled}
+use Rattle.tile.specs.Tiles.{askedOf}
+use Rattle.tile.specs.TilesLaws.{tiled}
 use Rattle.tile.proofs.tile.Statement.{statement}
 use Rattle.tile.proofs.tile.Tie as tie
 

@@ -1,0 +1,143 @@
+-- What a plan tells: a drop is one of steps 1 to 8, and a course is that of the frame's own policing entry.
+use mathlib.Core.Path.{_≡_, refl, subst}
+use mathlib.Core.Bool.{Bool, true, false, cond, not}
+use mathlib.Core.List.{List}
+use Prim.Native.Nat.{ℕ, _≤_}
+use lib.Dec.{ltb, leb, eqb, lit≤}
+use Rattle.image.specs.Layout.{countOf}
+use Rattle.image.specs.declared.tables.Table.the-variants.{Policing}
+use Rattle.fields.specs.Fields.{portVlanid, vlanprio, drpuntag, ingress, sharindx, maxlen, partition}
+use Rattle.frame.specs.declared.Tag.{Tag}
+use Rattle.frame.specs.declared.Tag.the-variants.{Untagged, Tagged}
+use Rattle.frame.specs.declared.Intake.{Intake}
+use Rattle.frame.specs.declared.Intake.the-variants as intake
+use Rattle.frame.specs.Bytes.{octetsOf, destinationOf, sourceOf, tagOf}
+use Rattle.frame.specs.Intake.{byTag, intakeOf}
+use Rattle.plan.specs.declared.enter.Placed.{Placed}
+use Rattle.plan.specs.declared.enter.Placed.the-variants.{Absent, At}
+use Rattle.plan.specs.declared.enter.Entered.{Entered}
+use Rattle.plan.specs.declared.enter.Entered.the-variants as entered
+use Rattle.plan.specs.declared.Policed.{Policed}
+use Rattle.plan.specs.declared.Policed.the-variants.{Unmetered, TooLong, By}
+use Rattle.plan.specs.declared.Course.{Course}
+use Rattle.plan.specs.declared.Planned.{Planned}
+use Rattle.plan.specs.declared.Planned.the-variants.{Dropped, Goes}
+use Rattle.plan.specs.Steps.{placedOf, outsider, keptOut}
+use Rattle.addresses.specs.Address.{barred}
+use Rattle.plan.specs.Enter.{byPlace, byIntake, enterOf}
+use Rattle.plan.specs.Police.{policerOf, policedOf}
+use Rattle.plan.specs.Plan.{courseOf, byPolicer, planOf}
+use Rattle.judge.specs.Judge.{byEntry, planFor}
+use Rattle.nights.specs.Policer.{Polices}
+
+-- ---- a drop of a plan is one of steps 1 to 8
+abbrev EarlyIntake : Intake → Type 0
+EarlyIntake (intake.Dropped n) = n ≤ 8
+EarlyIntake (intake.Taken vlan priority tagged) = Unit {0}
+
+abbrev EarlyEntry : Entered → Type 0
+EarlyEntry (entered.Dropped n) = n ≤ 8
+EarlyEntry (entered.In vlan place priority) = Unit {0}
+
+abbrev EarlyPlan : Planned → Type 0
+EarlyPlan (Dropped n) = n ≤ 8
+EarlyPlan (Goes w) = Unit {0}
+
+module _ (image : List ℕ) (port : ℕ) (frame : List ℕ) where
+  taken : EarlyIntake (intakeOf image port frame)
+  unfolding intakeOf
+  taken = one (ltb (octetsOf frame) 64)
+    where
+      three : (t : Bool) → EarlyIntake (cond t (intake.Dropped 3) (intake.Taken (portVlanid image port) (vlanprio image port) false))
+      three true = lit≤ tt
+      three false = tt
+
+      tagged : (t : Tag) → EarlyIntake (byTag image port t)
+      tagged Untagged = three (not (eqb (drpuntag image port) 0))
+      tagged (Tagged at priority vlan) = tt
+
+      two : (t : Bool) → EarlyIntake (cond t (intake.Dropped 2) (byTag image port (tagOf frame)))
+      two true = lit≤ tt
+      two false = tagged (tagOf frame)
+
+      one : (t : Bool) → EarlyIntake (cond t (intake.Dropped 1) (cond (eqb (ingress image port) 0) (intake.Dropped 2) (byTag image port (tagOf frame))))
+      one true = lit≤ tt
+      one false = two (eqb (ingress image port) 0)
+
+  kept-out : (vlan : ℕ) (tagged : Bool) (source place : ℕ) → keptOut image port vlan tagged source place ≤ 8
+  unfolding keptOut
+  kept-out vlan tagged source place = five (outsider image port tagged place) (barred image port vlan source)
+    where
+      five : (s t : Bool) → cond s 5 (cond t 6 0) ≤ 8
+      five true t = lit≤ tt
+      five false true = lit≤ tt
+      five false false = lit≤ tt
+
+  entry : EarlyEntry (enterOf image port frame)
+  unfolding enterOf
+  entry = by-intake (intakeOf image port frame) taken
+    where
+      out : (vlan place priority n : ℕ) → n ≤ 8 → (t : Bool) → EarlyEntry (cond t (entered.In vlan place priority) (entered.Dropped n))
+      out vlan place priority n h true = tt
+      out vlan place priority n h false = h
+
+      by-place : (vlan priority : ℕ) (tagged : Bool) (q : Placed) → EarlyEntry (byPlace image port frame vlan priority tagged q)
+      by-place vlan priority tagged Absent = lit≤ tt
+      by-place vlan priority tagged (At place) =
+          out vlan place priority _ (kept-out vlan tagged (sourceOf frame) place) (eqb (keptOut image port vlan tagged (sourceOf frame) place) 0)
+
+      by-intake : (q : Intake) → EarlyIntake q → EarlyEntry (byIntake image port frame q)
+      by-intake (intake.Dropped n) h = h
+      by-intake (intake.Taken vlan priority tagged) h = by-place vlan priority tagged (placedOf image vlan)
+
+  plan : EarlyPlan (planFor image port frame)
+  unfolding planFor planOf
+  plan = by-entry (enterOf image port frame) entry
+    where
+      police : (vlan place priority : ℕ) (q : Policed) → EarlyPlan (byPolicer image port (destinationOf frame) vlan place priority q)
+      police vlan place priority Unmetered = lit≤ tt
+      police vlan place priority TooLong = lit≤ tt
+      police vlan place priority (By k m) = tt
+
+      by-entry : (q : Entered) → EarlyEntry q → EarlyPlan (byEntry image port frame q)
+      by-entry (entered.Dropped n) h = h
+      by-entry (entered.In vlan place priority) h =
+          police vlan place priority (policedOf image port priority (destinationOf frame) (octetsOf frame))
+
+  -- what a plan drops a frame with
+  pub plan-drops : (n : ℕ) → planFor image port frame ≡ Dropped n → n ≤ 8
+  plan-drops n e = subst EarlyPlan e plan
+
+-- ---- a course is that of the frame's own policing entry
+-- entry k polices a course: its meter is the one that SHARINDX names, its partition PARTITION
+abbrev OfEntry : List ℕ → ℕ → List ℕ → Planned → Type 0
+OfEntry image port frame (Dropped n) = Unit {0}
+OfEntry image port frame (Goes w) = (k : ℕ) × Polices image port frame k × (w .meter ≡ sharindx image k) × (w .partition ≡ partition image k)
+
+-- a course has the meter that SHARINDX of entry k names, and PARTITION of entry k
+pub goes-by : (image : List ℕ) (port : ℕ) (frame : List ℕ) (w : Course) → planFor image port frame ≡ Goes w
+    → (k : ℕ) × Polices image port frame k × (w .meter ≡ sharindx image k) × (w .partition ≡ partition image k)
+unfolding planFor planOf policedOf courseOf
+goes-by image port frame w e = subst (OfEntry image port frame) e (go (enterOf image port frame) refl)
+  where
+    police : (vlan place priority : ℕ) → enterOf image port frame ≡ entered.In vlan place priority → (s t u : Bool)
+        → OfEntry image port frame
+        (byPolicer image port (destinationOf frame) vlan place priority
+        (cond s Unmetered
+        (cond t Unmetered
+        (cond u TooLong (By (policerOf port priority (destinationOf frame)) (sharindx image (policerOf port priority (destinationOf frame))))))))
+    police vlan place priority q true t u = tt
+    police vlan place priority q false true u = tt
+    police vlan place priority q false false true = tt
+    police vlan place priority q false false false = (
+      policerOf port priority (destinationOf frame),
+      record { vlan = vlan; place = place; priority = priority; entered = q; is = refl },
+      refl,
+      refl,
+    )
+
+    go : (q : Entered) → enterOf image port frame ≡ q → OfEntry image port frame (byEntry image port frame q)
+    go (entered.Dropped n) q = tt
+    go (entered.In vlan place priority) q =
+        let k = policerOf port priority (destinationOf frame) in
+        police vlan place priority q (leb (countOf image Policing) k) (leb (countOf image Policing) (sharindx image k)) (ltb (maxlen image k) (octetsOf frame))
