@@ -122,12 +122,13 @@ extern "C" {
 
 /*
  * A load state. A caller makes a fresh one, lends it to each write, and need not look inside. Any numbers may stand in it: those that
- * can't be a load under way are refused with 30.
+ * can't be a load are refused with 30. `told` and `table` are part of the state in one phase each. In any other phase they are not read,
+ * and a write that ends in any other phase leaves them as they stood before it.
  */
 struct tailbow_load {
     uint32_t phase;
-    uint32_t told;   /* in TAILBOW_PHASE_TOLD the answer; not read in any other phase, and left as it stood */
-    uint32_t table;  /* the block's table by its number: from 0 on 05, 06, 07, 08, 09, 0D, 0E, 11, 4E, as they stand in the image */
+    uint32_t told;   /* in TAILBOW_PHASE_TOLD the answer, which is never TAILBOW_MORE */
+    uint32_t table;  /* in TAILBOW_PHASE_DATA the block's table: from 0 on 05, 06, 07, 08, 09, 0D, 0E, 11, 4E, as they stand in the image */
     uint64_t placed; /* data words of the block that stand in the image */
     uint64_t due;    /* data words of the block still to come */
     uint32_t first;  /* the header's first word */
@@ -146,13 +147,15 @@ void tailbow_fresh_load(struct tailbow_load *load);
  * A write of 1 to 64 words to a load.
  *
  * 31  image_words is below TAILBOW_IMAGE_WORDS.
- * 30  The phase is above 5 or no table has that number; or, for a load that has begun (any phase but TAILBOW_PHASE_FRESH), some table's
- *     count in the image is above its most entries, or in TAILBOW_PHASE_DATA more words are placed and due than the table has
- *     room for behind the entries it has. A first write with a table's number never gives it, whatever the image holds.
+ * 30  The phase is above 5; or in TAILBOW_PHASE_DATA no table has the number in `table`; or in TAILBOW_PHASE_TOLD the answer in `told` is
+ *     TAILBOW_MORE; or, for a load that has begun (any phase but TAILBOW_PHASE_FRESH), some table's count in the image is above its most
+ *     entries, or in TAILBOW_PHASE_DATA more words are placed and due than the table has room for behind the entries it has.
+ *     A first write, in TAILBOW_PHASE_FRESH, never gives it, whatever the image and the other numbers of the load state are.
  * 32  count is 0 or above TAILBOW_WRITE_WORDS.
  *
- * Each of these leaves the image and the load state as found. Then, if the load's answer has been told, that answer is repeated: image and
- * load state stay as found. Otherwise the words are taken one by one, and a first write zeroes the image before that. Answers:
+ * Each of these leaves the image and the load state as found. Then, if the load's answer has been told, the number in `told` is the answer
+ * again: image and load state stay as found. Otherwise the words are taken one by one, and a first write zeroes the image before that.
+ * Answers:
  *
  * TAILBOW_MORE    The end block is incomplete. The image holds the entries that have come; it is not marked loaded.
  * TAILBOW_LOADED  The image holds the entries, the counts and the mark, and zero elsewhere. The same entries in any order of blocks and
@@ -162,7 +165,10 @@ void tailbow_fresh_load(struct tailbow_load *load);
  * a rule's number The first loading rule broken. The image is zero.
  *
  * Words behind an answer are ignored. Afterwards *load is the state for the next write: after an answer it holds
- * TAILBOW_PHASE_TOLD and the answer, all else 0. The four bytes behind `table` are kept in any case. Neither 9 nor 10 is an answer here.
+ * TAILBOW_PHASE_TOLD and the answer, all else 0 but `table`, which stays as it stood. `table` is written only where the phase afterwards is
+ * TAILBOW_PHASE_DATA: it is then the table of the block that is under way. Between two blocks, in a header and after an answer it is what
+ * stood there before the call, also where the write entered a block and left it. The four bytes behind `table` are kept in any case.
+ * Neither 9 nor 10 is an answer here.
  */
 uint32_t tailbow_write(uint32_t *image, size_t image_words, struct tailbow_load *load, const uint32_t *words, size_t count);
 

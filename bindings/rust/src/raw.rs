@@ -13,9 +13,10 @@ pub const MORE: u32 = 0xFFFF_FFFF;
 pub struct FlatLoad {
     /// Which word comes next: 0 word 0, 1 to 3 a header's words, 4 data or its checksum, 5 none: an answer has been told.
     pub phase: u32,
-    /// The answer, in phase 5; in another phase it is not read.
+    /// In phase 5 the answer, which is never [`MORE`]; in another phase it is not read, and left as it stood.
     pub told: u32,
-    /// The block's table by its number, from 0 on in the order in which the header lists them.
+    /// In phase 4 the block's table by its number, from 0 on in the order in which the header lists them; in another phase it is not
+    /// read, and where the phase after a write is another it is left as it stood before that write.
     pub table: u32,
     /// Data words of the block that stand in the image.
     pub placed: u64,

@@ -8,7 +8,8 @@ use Rattle.image.specs.Layout.{countOf}
 use Rattle.image.specs.declared.tables.Table.the-variants.{AddressLookup}
 use Rattle.fields.specs.Fields.{index}
 use Rattle.addresses.specs.Address.{matches}
-use Rattle.addresses.specs.Least.{Scanned, scanned}
+use Rattle.addresses.specs.Least.{Scanned}
+use Rattle.addresses.specs.LeastLaws.{scanned}
 
 -- no match has a lower INDEX than the one that is found, and none before it has its INDEX; or nothing matches
 pub destination-lowest : (image : List ℕ) (vlan mac : ℕ) → Scanned (countOf image AddressLookup) (λ i. matches image vlan mac i) (λ i. index image i)

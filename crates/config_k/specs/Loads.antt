@@ -6,7 +6,8 @@ use mathlib.Core.List.{List}
 use Prim.Native.Nat.{ℕ, _<_}
 use lib.Dec.{eqb, lit<}
 use borrow.Author.Tests.{lt-ltb}
-use Rattle.laws.specs.Scan.{some-below, first, total, twice, none-all}
+use Rattle.laws.specs.Scan.{some-below, first, total, twice}
+use Rattle.laws.specs.ScanLaws.{none-all}
 use Rattle.crc.specs.Crc.{bit, bitsOut, byteIn, bytesIn, bytesOf, wordIn, wordsIn, finished, checksum}
 use Rattle.image.specs.Layout.{imageOf}
 use Rattle.image.specs.Blocks.{blockOf}
@@ -17,7 +18,8 @@ use Rattle.rules.specs.Rules.{ruled}
 use Rattle.stream.specs.Paper.{Outcome, passed, blocks, framed, refusedWith, outcomeOf, loaded}
 use Rattle.config_k.specs.Stream.{K}
 use Rattle.config_k.specs.Tables.{kTables}
-use Rattle.config_k.specs.Fields.{IsK, k-fields}
+use Rattle.config_k.specs.Fields.{IsK}
+use Rattle.config_k.specs.FieldsProved.{k-fields}
 
 -- every checksum, ID and length is right, and each table gets K's words
 pub k-framed : framed K ≡ passed kTables

@@ -1,15 +1,13 @@
 -- Configuration K's tables (document 01, "The verdict program"), each entry made of its fields at the manual's bottom bits. A field that K does not
 -- give is zero.
-use mathlib.Core.Path.{_≡_, refl}
 use mathlib.Core.Bool.{cond}
 use mathlib.Core.List.{List, [], _∷_, _++_}
 use Prim.Native.Nat.{ℕ, zero, suc, _+_, _-_, _*_, _/_, _%_, _^_}
 use lib.Dec.{eqb}
 use lib.ListN.{replicate}
 use Rattle.image.specs.Rows.{Row, rows, indexOf}
-use Rattle.image.specs.Layout.{listOf}
 use Rattle.image.specs.declared.tables.Table.{Table}
-use Rattle.image.specs.declared.tables.Table.the-variants.{AddressLookup, Policing, VlanLookup, Forwarding, MacConfiguration, LookupParameters, ForwardingParameters, GeneralParameters, XmiiModeParameters}
+use Rattle.image.specs.declared.tables.Table.the-variants.{Policing, VlanLookup, Forwarding, MacConfiguration, ForwardingParameters, GeneralParameters, XmiiModeParameters}
 
 -- an entry of n words, low word first
 abbrev pub words : ℕ → ℕ → List ℕ
@@ -86,7 +84,3 @@ listsOf (r ∷ rs) = wordsFor (r .table) brought ∷ listsOf rs
 
 unfoldable pub kTables : List (List ℕ)
 kTables = listsOf rows
-
-pub k-absent : (listOf kTables AddressLookup ≡ []) × (listOf kTables LookupParameters ≡ [])
-unfolding kTables
-k-absent = (refl, refl)

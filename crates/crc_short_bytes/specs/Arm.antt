@@ -1,22 +1,10 @@
--- An entry of this crate's tables, which stand in the code as a match: crc's law of an arm, for a register together with itself two words later.
-use mathlib.Core.Path.{_≡_}
+-- The entries at the powers of two, of this crate's tables.
 use mathlib.Core.List.{List}
-use Prim.Native.Nat.{ℕ, _+_, _<_}
-use lib.Dec.{T, eqb}
+use Prim.Native.Nat.{ℕ}
 use Rattle.crc.specs.Crc.{bitsOut}
-use Rattle.crc.specs.Arm.{Linear, pick, bitsOut-none, after-bits}
 use Rattle.crc.specs.Arm as linear
-use Rattle.crc_short_bytes.specs.Twice.{twice, twice-linear}
+use Rattle.crc_short_bytes.specs.Twice.{twice}
 
 -- the entries at m powers of two, from the p-th on, of the table of a byte that n bits follow
 unfoldable pub basis : ℕ → ℕ → ℕ → List ℕ
 basis n = linear.basis (λ (b : ℕ). twice (bitsOut n b))
-
-pub halves : Linear twice
-unfolding twice
-halves = record { none = rw (bitsOut-none 64); xor = twice-linear }
-
--- the arm at 256 + k, for the byte k
-pub arm : (n : ℕ) (es : List ℕ) (k v b : ℕ) → es ≡ basis n 0 8 → k < 256 → T (eqb v (pick es k)) → b + 256 ≡ k + 256 → v ≡ twice (bitsOut n b)
-unfolding basis
-arm n = linear.arm (after-bits halves n)

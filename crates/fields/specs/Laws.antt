@@ -1,4 +1,4 @@
--- Laws of fields: which words of an entry a field's bits lie in.
+-- Laws of fields: a field read from those words.
 use mathlib.Core.Path.{_≡_, refl, sym, _∙_, ap, subst}
 use mathlib.Core.List.{List, [], _∷_}
 use Prim.Native.Nat.{ℕ, zero, suc, _+_, _-_, _*_, _/_, _%_, _^_, _<_, _≤_}
@@ -9,10 +9,7 @@ use lib.ListN.{getD, take, drop}
 use lib.Seq.{getD-drop, getD-take, take-take}
 use Rattle.image.specs.Layout.{imageWords, imageIn}
 use Rattle.fields.specs.Fields.{number, bits}
-
--- each element of a list of words fits 32 bits, as does the 0 past its end
-abbrev pub Words : List ℕ → Type 0
-Words ws = (i : ℕ) → getD ws i 0 < 0x100000000
+use Rattle.fields.specs.Words.{Words}
 
 -- the low b + w bits of x + 2^k y are those of x, where b + w is at most k
 pub low-bits : (x y k b w : ℕ) → b + w ≤ k → (x + 2 ^ k * y) / 2 ^ b % 2 ^ w ≡ x / 2 ^ b % 2 ^ w

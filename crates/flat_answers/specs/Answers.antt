@@ -1,5 +1,4 @@
 -- A verdict and a tile as numbers: the kind, the refusal's or the drop's number, and the values; what a kind does not have is 0.
-use mathlib.Core.Path.{_≡_, _∙_, ap}
 use Prim.Native.Nat.{ℕ}
 use Rattle.ports.specs.declared.Sending.{Sending}
 use Rattle.settle.specs.declared.Verdict.{Verdict}
@@ -62,6 +61,3 @@ flatShown (Shares frames octets) = shown 3 0 (bitsOf frames) (bitsOf octets)
 abbrev pub flatTile : Asked → FlatTile
 flatTile (asked.Refused n) = shown 0 n 0 0
 flatTile (asked.Shown t) = flatShown t
-
-pub shown-as : (a b c d : ℕ) → a ≡ b → c ≡ d → shown 3 0 a c ≡ shown 3 0 b d
-shown-as a b c d e h = ap (λ (x : ℕ). shown 3 0 x c) e ∙ ap (λ (x : ℕ). shown 3 0 b x) h

@@ -1,10 +1,8 @@
 -- What stands at a place of a frame list, as numbers: the kind, the refusal's number, and the values; what a kind does not have is 0.
-use mathlib.Core.Path.{_≡_, sym, _∙_, ap}
+use mathlib.Core.Path.{_≡_}
 use mathlib.Core.List.{List}
 use Prim.Native.Nat.{ℕ}
-use Rattle.records.specs.declared.Record.{Record}
 use Rattle.records.specs.List.{Stands, frame, release, end, refused, standsAt}
-use Rattle.records.specs.Answer.{told}
 use Rattle.flat_lists.specs.declared.FlatRecord.{FlatRecord}
 
 abbrev pub numbers : ℕ → ℕ → ℕ → ℕ → ℕ → ℕ → ℕ → ℕ → FlatRecord
@@ -29,10 +27,3 @@ flatStands end = numbers 3 0 0 0 0 0 0 0
 -- what the entry answers of a place
 pub record RecordsFlat (list : List ℕ) (at : ℕ) (r : FlatRecord) : Type 0 where
   pub stands : r ≡ flatStands (standsAt list at)
-
-pub records : (list : List ℕ) (at : ℕ) (s : Record) (r : FlatRecord) → told s ≡ standsAt list at → r ≡ flatStands (told s) → RecordsFlat list at r
-records list at s r p e = record { stands = e ∙ ap flatStands p }
-
--- the promise permits one answer
-pub one-record : (list : List ℕ) (at : ℕ) (r s : FlatRecord) → RecordsFlat list at r → RecordsFlat list at s → r ≡ s
-one-record list at r s p q = p .stands ∙ sym (q .stands)

@@ -5,7 +5,7 @@ use mathlib.Core.Bool.{Bool, true, false, cond, not}
 use mathlib.Core.List.{List, [], _∷_}
 use Prim.Native.Nat.{ℕ, suc, _+_, _-_, _/_, _%_, _<_}
 use lib.Dec.{ltb, eqb, lit<}
-use lib.ListN.{length, getD}
+use lib.ListN.{length}
 use lib.Seq.{length-sets}
 use borrow.Author.Tests.{eqb-false}
 use Rattle.crc.specs.Crc.{wordIn, start, finished, checksum}
@@ -30,10 +30,7 @@ use Rattle.flat_states.specs.Stored.{Storable}
 use Rattle.flat_states.specs.Round.{state-back, is-state, of-numbers}
 use Rattle.flat_loads.specs.Calls.{FlatWritten, wroteFlat}
 use Rattle.flat_loads.specs.Through.{of-state}
-
--- each word has 32 bits, as its type says
-abbrev pub Words : List ℕ → Type 0
-Words ws = (i : ℕ) → getD ws i 0 < 4294967296
+use Rattle.flat_loads.specs.Words.{Words}
 
 -- ---- a word more keeps the state one that six numbers hold
 

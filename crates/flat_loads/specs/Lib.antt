@@ -2,5 +2,6 @@
 pub mod Calls
 pub mod CallsLaws
 pub mod Through
+pub mod Words
 pub mod Kept
 pub mod Data

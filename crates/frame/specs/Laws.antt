@@ -1,4 +1,4 @@
--- What a frame that was taken in has, and row (k) of document 01's proved table.
+-- That a frame that was taken in has it; and row (k) of document 01's proved table.
 use mathlib.Core.Path.{_≡_, refl, sym, _∙_, ap}
 use mathlib.Core.Bool.{Bool, true, false, cond, not}
 use mathlib.Core.List.{List}
@@ -10,23 +10,13 @@ use borrow.Author.Tests.{ltb-false}
 use Rattle.fields.specs.Fields.{vlanprio, portVlanid, drpuntag, ingress}
 use Rattle.frame.specs.declared.Tag.{Tag}
 use Rattle.frame.specs.declared.Tag.the-variants.{Untagged, Tagged}
-use Rattle.frame.specs.declared.Intake.{Intake}
 use Rattle.frame.specs.declared.Intake.the-variants.{Dropped, Taken}
 use Rattle.frame.specs.Bytes.{octetsOf, pairAt, tagOf}
 use Rattle.frame.specs.Intake.{byTag, intakeOf}
-
--- a frame that is taken in has sixty bytes and a priority of three bits
-abbrev pub Whole : List ℕ → Intake → Type 0
-Whole frame (Dropped n) = Unit {0}
-Whole frame (Taken vlan priority tagged) = (60 ≤ length frame) × (priority < 8)
+use Rattle.frame.specs.Whole.{Whole, Narrow}
 
 eight : (n : ℕ) → n % 8 < 8
 eight n = mod-lt n (lit< tt)
-
--- the priority in a tag
-abbrev pub Narrow : Tag → Type 0
-Narrow Untagged = Unit {0}
-Narrow (Tagged at priority vlan) = priority < 8
 
 narrow : (frame : List ℕ) → Narrow (tagOf frame)
 unfolding tagOf

@@ -1,9 +1,7 @@
 -- The image (document 01, "The stream"): entries in the rows' order, then the counts in the same order, then the mark, then zeros.
-use mathlib.Core.Path.{_≡_}
 use mathlib.Core.List.{List, [], _∷_, _++_}
 use Prim.Native.Nat.{ℕ, suc, _+_, _-_, _*_, _/_, _<_, _≤_}
 use lib.ListN.{length, getD, set, take, drop, replicate}
-use lib.Seq.{getD-take}
 use Rattle.image.specs.Rows.{Row, rows, room, before, indexOf, tableCount, sizeOf, mostOf, startOf}
 use Rattle.image.specs.declared.tables.Table.{Table}
 
@@ -94,8 +92,3 @@ listOf lists t = getD lists (indexOf t) []
 -- "a loaded image holds the entries, the counts and the mark that it is loaded, all fixed by the entry lists alone"
 abbrev pub imageOf : List (List ℕ) → List ℕ
 imageOf lists = layout 1 lists
-
--- ---- a word of the image is the buffer's
-pub getD-in : (buffer : List ℕ) (j : ℕ) → j < imageWords → getD (imageIn buffer) j 0 ≡ getD buffer j 0
-unfolding imageIn
-getD-in buffer j h = getD-take imageWords buffer j 0 h

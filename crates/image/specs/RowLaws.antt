@@ -7,17 +7,14 @@ use native.Mathlib.Omega.{arith}
 use lib.Dec.{ltb, leb, eqb, lit<}
 use borrow.Author.Tests.{ltb-true, leb-true, eqb-true}
 use Rattle.laws.specs.Chain.{both-passed}
-use Rattle.laws.specs.Scan.{every, every-at}
+use Rattle.laws.specs.Scan.{every}
+use Rattle.laws.specs.ScanLaws.{every-at}
 use Rattle.image.specs.Rows.{rows, room, before, indexOf, tableCount, rowAt, rowOf, sizeOf, mostOf, startOf}
 use Rattle.image.specs.Layout.{entryWords, imageWords, countAt, markAt}
 use Rattle.image.specs.declared.tables.Row.{Row as CodeRow}
 use Rattle.image.specs.declared.tables.Table.{Table}
 use Rattle.image.specs.declared.tables.Table.the-variants.{AddressLookup, Policing, VlanLookup, Forwarding, MacConfiguration, LookupParameters, ForwardingParameters, GeneralParameters, XmiiModeParameters}
-
--- a table's place is a row's, and that row is its own
-pub record Placed (t : Table) : Type 0 where
-  pub inside : indexOf t < tableCount
-  pub back : rowOf t .table ≡ t
+use Rattle.image.specs.Placed.{Placed, RowOf}
 
 pub placed : (t : Table) → Placed t
 placed AddressLookup = record { inside = lit< tt; back = refl }
@@ -61,18 +58,6 @@ small : (t : Table) → (mostOf t ≤ entryWords) × (sizeOf t ≤ entryWords)
 small t =
     let both = both-passed _ _ (every-at tableCount (indexOf t) (λ k. leb (rowAt k .most) entryWords && leb (rowAt k .size) entryWords) all-small (placed t .inside)) in
     (leb-true _ entryWords (both .0), leb-true _ entryWords (both .1))
-
--- the code's row of a table: what the rows say of it, and that it lies in the image
-pub record RowOf (t : Table) (r : CodeRow) : Type 0 where
-  pub place : r .place ≡ indexOf t
-  pub start : r .start ≡ startOf t
-  pub size : r .size ≡ sizeOf t
-  pub most : r .most ≡ mostOf t
-  pub inside : r .place < tableCount
-  pub some : 0 < r .size
-  pub short : r .size ≤ entryWords
-  pub few : r .most ≤ entryWords
-  pub ends : r .start + r .size * r .most ≤ entryWords
 
 pub row-is : (t : Table) (r : CodeRow) → r .place ≡ indexOf t → r .start ≡ startOf t → r .size ≡ sizeOf t → r .most ≡ mostOf t → RowOf t r
 row-is t r p b s m =

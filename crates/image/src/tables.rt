@@ -4,7 +4,7 @@ ghost use Prim.Native.Nat.{_+_, _*_, _<_, _≤_};
 ghost use Rattle.image.specs.Rows.{rowAt, startOf, sizeOf, mostOf};
 ghost use Rattle.image.specs.Blocks.{blockOf};
 ghost use Rattle.image.specs.Layout.{entryWords};
-ghost use Rattle.image.specs.RowLaws.{RowOf};
+ghost use Rattle.image.specs.Placed.{RowOf};
 
 // The tables that are carried, in the rows' order.
 pub enum Table {

@@ -5,11 +5,13 @@ use Prim.Native.Nat.{ℕ, zero, suc, _<_, _≤_}
 use native.Mathlib.Omega.{arith}
 use lib.ListN.{drop, replicate}
 use Rattle.image.specs.Layout.{imageWords, imageIn, countOf, Held, cleared}
-use Rattle.image.specs.Sound.{Bounded, held}
+use Rattle.image.specs.Sound.{Bounded}
+use Rattle.image.specs.SoundLaws.{held}
 use Rattle.image.specs.declared.tables.Table.{Table}
 use Rattle.image.specs.declared.tables.Table.the-variants.{LookupParameters}
 use Rattle.image.specs.Rows.{mostOf}
-use Rattle.stream.specs.Fine.{Fine, cleared-fine, step-fine}
+use Rattle.stream.specs.Fine.{Fine}
+use Rattle.stream.specs.FineLaws.{cleared-fine, step-fine}
 use Rattle.stream.specs.Machine.{Machine, at, fresh, step}
 use Rattle.stream.specs.declared.Load.{Load}
 use Rattle.stream.specs.Leaves.{Leaves}

@@ -7,26 +7,19 @@ use Prim.Native.Nat.{ℕ}
 use lib.Dec.{eqb}
 use borrow.Author.Tests.{eqb-true, eqb-false}
 use Rattle.image.specs.Layout.{imageIn}
-use Rattle.spend.specs.declared.Spent.{Spent}
 use Rattle.frame.specs.Bytes.{octetsOf}
 use Rattle.plan.specs.declared.Course.{Course}
 use Rattle.plan.specs.declared.Planned.{Planned}
 use Rattle.plan.specs.declared.Planned.the-variants.{Dropped, Goes}
-use Rattle.plan.specs.Laws.{Sane, Follows}
+use Rattle.plan.specs.Sane.{Sane, Follows}
 use Rattle.settle.specs.declared.Verdict.the-variants.{Refused, Drop, Sent}
-use Rattle.settle.specs.Settle.{spentWith, settledBy, settledOf, heldAt, stored, Judged, judged, carriedOut}
+use Rattle.settle.specs.Settle.{settledOf, Judged, judged, carriedOut}
 use Rattle.settle.specs.Note.{noted}
 use Rattle.judge.specs.Refusal.{refusalOf}
 use Rattle.judge.specs.Judge.{planFor, notedOf, judgeOf}
-use Rattle.judge.specs.Laws.{Admitted, admitted, plan-follows}
-
--- what a course spends of a row
-abbrev pub spentAt : List ℕ → Course → ℕ → ℕ → Spent
-spentAt g w time l = spentWith w (heldAt g w) time l
-
--- the row once it is spent
-abbrev pub rowAfter : List ℕ → Course → ℕ → ℕ → List ℕ
-rowAfter g w time l = stored g w (settledBy w (spentAt g w time l) .held)
+use Rattle.judge.specs.Admitted.{Admitted}
+use Rattle.judge.specs.Laws.{admitted, plan-follows}
+use Rattle.judge.specs.After.{spentAt, rowAfter}
 
 module _ (buffer g : List ℕ) (port time : ℕ) (frame : List ℕ) (P : Judged → Type 0) where
   -- steps 9 to 11 drop the frame, or do not

@@ -1,4 +1,4 @@
--- What a frame that is not refused has, its plan, and its promise.
+-- That a frame which is not refused has it, its plan, and its promise.
 use mathlib.Core.Path.{_≡_, refl, sym, _∙_, ap, subst}
 use mathlib.Core.Bool.{Bool, true, false, cond}
 use mathlib.Core.List.{List}
@@ -12,9 +12,10 @@ use Rattle.laws.specs.Chain.{none-first, none-rest, zero-first, zero-rest, at-z
 use Rattle.image.specs.Layout.{imageIn}
 use Rattle.image.specs.Sound.{Sound}
 use Rattle.image.specs.declared.tables.Table.the-variants.{Policing}
-use Rattle.ledger.specs.Row.{frames, last, many, cell}
+use Rattle.ledger.specs.Row.{frames, last, cell}
 use Rattle.ledger.specs.Range.{latest, standing}
-use Rattle.ledger.specs.Laws.{InRange, Stands, stands}
+use Rattle.ledger.specs.Stands.{Stands}
+use Rattle.ledger.specs.Laws.{stands}
 use Rattle.frame.specs.Bytes.{octetsOf}
 use Rattle.plan.specs.declared.enter.Entered.{Entered}
 use Rattle.plan.specs.declared.enter.Entered.the-variants as entered
@@ -22,26 +23,16 @@ use Rattle.plan.specs.Enter.{enterOf}
 use Rattle.plan.specs.declared.Course.{Course}
 use Rattle.plan.specs.declared.Planned.{Planned}
 use Rattle.plan.specs.declared.Planned.the-variants.{Dropped, Goes}
-use Rattle.plan.specs.Laws.{Sane, Follows, follows}
+use Rattle.plan.specs.Sane.{Sane, Follows}
+use Rattle.plan.specs.Laws.{follows}
 use Rattle.settle.specs.declared.Verdict.{Verdict}
 use Rattle.settle.specs.declared.Verdict.the-variants.{Refused}
 use Rattle.settle.specs.Settle.{Judged, judged, carriedOut, Carries}
 use Rattle.settle.specs.Note.{isDrop, noted}
-use Rattle.settle.specs.Laws.{Runs, RunsAll}
-use Rattle.settle.specs.Countable.{Countable}
+use Rattle.settle.specs.Runs.{Runs, RunsAll}
 use Rattle.judge.specs.Refusal.{mistimed, unjudged, refusalOf}
 use Rattle.judge.specs.Judge.{saidOf, byEntry, planFor, notedOf, judgeOf, Judges}
-
--- ---- what is admitted
-
-pub record Admitted (buffer g : List ℕ) (port time : ℕ) (frame : List ℕ) : Type 0 where
-  pub image : Sound buffer
-  pub ledger : InRange (imageIn buffer) g
-  pub inside : port < many frames
-  pub later : cell g last 0 ≤ time
-  pub early : time ≤ latest
-  pub short : length frame ≤ 4096
-  pub countable : Countable g port
+use Rattle.judge.specs.Admitted.{Admitted}
 
 pub admitted : (buffer g : List ℕ) (port time : ℕ) (frame : List ℕ) → refusalOf buffer g port time frame ≡ 0 → Admitted buffer g port time frame
 unfolding refusalOf

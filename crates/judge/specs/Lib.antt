@@ -2,6 +2,8 @@
 pub mod Refusal
 pub mod Judge
 pub mod SaidLaws
+pub mod Admitted
 pub mod Laws
+pub mod After
 pub mod Cases
 pub mod Proved

@@ -5,7 +5,7 @@ use Prim.Native.Nat.{ℕ, _+_, _-_, _*_, _≤_}
 use native.Mathlib.Nat.{le-refl, le-trans, min-le-left}
 use native.Mathlib.Omega.{arith}
 use lib.Dec.{ltb, eqb}
-use Rattle.ledger.specs.Laws.{Counted}
+use Rattle.ledger.specs.Stands.{Counted}
 use Rattle.spend.specs.declared.Meter.{Meter}
 use Rattle.spend.specs.declared.Counts.{Counts}
 use Rattle.spend.specs.Meter.{cost}

@@ -8,7 +8,8 @@ use Rattle.laws.specs.Chain.{pass-lt}
 use Rattle.fields.specs.Fields.{partSpc}
 use Rattle.ledger.specs.Row.{units, credit, since, start, many, cellCount, cell}
 use Rattle.ledger.specs.Range.{fullOf}
-use Rattle.row.specs.Fresh.{length-table, table-at, freshCell, freshOf, fresh-partition, fresh-meter}
+use Rattle.row.specs.FreshLaws.{length-table, table-at, fresh-partition, fresh-meter}
+use Rattle.row.specs.Fresh.{freshCell, freshOf}
 
 pub fresh-length : (image : List ℕ) → length (freshOf image) ≡ cellCount
 unfolding freshOf

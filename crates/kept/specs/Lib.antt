@@ -3,4 +3,6 @@ pub mod Lists
 pub mod Fresh
 pub mod Cells
 pub mod Kept
+pub mod KeptLaws
 pub mod History
+pub mod HistoryLaws

@@ -6,6 +6,7 @@ use Prim.Native.Nat.{ℕ, suc, _<_, _≤_}
 use native.Mathlib.Nat.{suc-ne-zero}
 use lib.Dec.{ltb, leb, eqb}
 use borrow.Author.Tests.{ltb-true, ltb-false, lt-ltb, le-ltb, le-leb, lt-leb, eq-eqb, ne-eqb}
+use Rattle.laws.specs.Agree.{agree}
 
 module _ {A : Type 0} where
   -- the test holds: the answer is its own
@@ -59,11 +60,6 @@ together a b c d f g = go (ltb a b) refl
     go : (t : Bool) → ltb a b ≡ t → t ≡ ltb c d
     go true e = sym (lt-ltb c d (f (ltb-true a b e)))
     go false e = sym (le-ltb c d (g (ltb-false a b e)))
-
--- that two tests agree, as a test
-abbrev pub agree : Bool → Bool → Bool
-agree true b = b
-agree false b = not b
 
 pub agreed : (a b : Bool) → agree a b ≡ true → a ≡ b
 agreed true b e = sym e

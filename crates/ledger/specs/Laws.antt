@@ -2,7 +2,7 @@
 use mathlib.Core.Path.{_≡_, refl, sym, _∙_, subst}
 use mathlib.Core.Bool.{Bool, true, false, cond}
 use mathlib.Core.List.{List, [], _∷_}
-use Prim.Native.Nat.{ℕ, _+_, _-_, _*_, _^_, _<_, _≤_}
+use Prim.Native.Nat.{ℕ, _+_, _-_, _*_, _^_, _<_}
 use native.Mathlib.Nat.{mod-lt}
 use native.Mathlib.Omega.{arith}
 use lib.Pow.{pow-pos}
@@ -11,13 +11,15 @@ use lib.ListN.{length, getD, set, length-set}
 use lib.Seq.{getD-set-same, getD-set-other}
 use borrow.Author.Tests.{ltb-false, leb-true, eqb-true, eqb-false}
 use Rattle.laws.specs.Chain.{none-first, none-rest, zero-first, zero-rest}
-use Rattle.laws.specs.Scan.{none-at}
+use Rattle.laws.specs.ScanLaws.{none-at}
 use Rattle.image.specs.Layout.{imageWords, imageIn}
 use Rattle.fields.specs.Fields.{partSpc}
 use Rattle.image.specs.Loaded.{tooShort, notLoaded}
-use Rattle.image.specs.Sound.{Sound, sound}
+use Rattle.image.specs.Sound.{Sound}
+use Rattle.image.specs.SoundLaws.{sound}
 use Rattle.ledger.specs.Row.{parts, units, credit, since, frames, drops, octets, dropped, last, many, cellCount, cell}
-use Rattle.ledger.specs.Range.{latest, unitsOver, fullOf, creditOver, octetsOff, countsOff, tilesOff, timesOver, outOfRange, unloaded, standing}
+use Rattle.ledger.specs.Range.{latest, unitsOver, creditOver, octetsOff, countsOff, tilesOff, timesOver, outOfRange, unloaded, standing}
+use Rattle.ledger.specs.Stands.{Counted, InRange, Stands}
 
 -- ---- stores into the row
 
@@ -50,17 +52,6 @@ other-place g a i j v ne = getD-set-other g (a + i) (a + j) v 0 (λ q. ne (omega
 
 pub ruleset cells = (other-part, read-back, length-set)
 
--- ---- tests
-
--- a tile's counts that 39 does not refuse
-pub record Counted (frames drops octets dropped : ℕ) : Type 0 where
-  pub fewer : drops ≤ frames
-  pub least : 4 * frames ≤ octets
-  pub most : octets ≤ 4100 * frames
-  pub dropped-least : 4 * drops ≤ dropped
-  pub dropped-most : dropped ≤ 4100 * drops
-  pub within : dropped ≤ octets
-
 pub counted : (frames drops octets dropped : ℕ) → countsOff frames drops octets dropped ≡ false → Counted frames drops octets dropped
 unfolding octetsOff
 counted frames drops octets dropped e =
@@ -76,14 +67,6 @@ counted frames drops octets dropped e =
       dropped-most = ltb-false (4100 * drops) dropped (none-rest (ltb dropped (4 * drops)) _ d);
       within = ltb-false octets dropped (none-rest (octetsOff drops dropped) _ e3);
     }
-
--- a ledger that 39 does not refuse
-pub record InRange (image g : List ℕ) : Type 0 where
-  pub spaced : (j : ℕ) → j < many units → cell g units j ≤ partSpc image j
-  pub metered : (k : ℕ) → k < many credit → cell g credit k ≤ fullOf image k
-  pub tiled : (p : ℕ) → p < many frames → Counted (cell g frames p) (cell g drops p) (cell g octets p) (cell g dropped p)
-  pub timed : (k : ℕ) → k < many since → cell g since k ≤ cell g last 0
-  pub early : cell g last 0 ≤ latest
 
 pub in-range : (image g : List ℕ) → outOfRange image g ≡ false → InRange image g
 unfolding outOfRange
@@ -109,11 +92,6 @@ loaded buffer e =
 -- and by a number r that a call handed over
 pub loaded-as : (buffer : List ℕ) (r : ℕ) → r ≡ unloaded buffer → r ≡ 0 → Sound buffer
 loaded-as buffer r e z = loaded buffer (sym e ∙ z)
-
--- what a call that 31, 30 and 39 do not refuse has
-pub record Stands (buffer g : List ℕ) : Type 0 where
-  pub image : Sound buffer
-  pub ledger : InRange (imageIn buffer) g
 
 pub stands : (buffer g : List ℕ) → standing buffer g ≡ 0 → Stands buffer g
 unfolding standing

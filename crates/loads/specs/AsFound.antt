@@ -5,7 +5,7 @@ use mathlib.Core.Bool.{Bool, true, false, cond, true≢false, false≢true}
 use mathlib.Core.List.{List, [], _∷_}
 use Prim.Native.Nat.{ℕ}
 use native.Mathlib.Omega.{arith}
-use lib.ListN.{length, replicate}
+use lib.ListN.{length, getD, replicate}
 use Rattle.image.specs.Layout.{imageWords, imageIn}
 use Rattle.image.specs.Loaded.{tooShort, overLimit}
 use Rattle.stream.specs.declared.Answer.{Answer}
@@ -16,7 +16,7 @@ use Rattle.stream.specs.declared.states.Wrote.{Wrote}
 use Rattle.stream.specs.Leaves.{Writes}
 use Rattle.stream.specs.Paper.{Whole, numbered}
 use Rattle.stream.specs.Machine.{answerOf, begun, overdueIn, damaged, outside, Written, written, wrote}
-use Rattle.flat_numbers.specs.Flat.{isLoad, loadIn, storedIn, numberOf}
+use Rattle.flat_numbers.specs.Flat.{low, high, phaseOf, isState, isLoad, loadIn, storedIn, numberOf}
 use Rattle.flat_loads.specs.Calls.{FlatWritten, WritesFlat, wroteFlat}
 use Rattle.flat_loads.specs.Through.{of-state}
 use Rattle.loads.specs.Refusals.{OneOf, this, later, RefusedWith, leaveAsFound}
@@ -131,6 +131,16 @@ module _ {numbers buffer words : List ℕ} where
         ap imageIn (p .image)
         ∙ flat-zero-by (flat-way numbers buffer words) u (λ q. z (p .answer ∙ q)) (λ q. m (p .answer ∙ q))
         (λ o. h (subst (λ (n : ℕ). OneOf n (30 ∷ 31 ∷ 32 ∷ [])) (sym (p .answer)) o))
+
+    -- "a first write never gives it": 30, for numbers in the first phase, whatever the others are
+    pub flat-first-write-never-30 : low (getD numbers 0 0) ≡ 0 → r ≡ 30 → ⊥
+    flat-first-write-never-30 first e =
+        let a : Answer = wrote (loadIn numbers) buffer words .answer in
+        let is : isLoad numbers ≡ true = ap (λ (n : ℕ). isState n (high (getD numbers 0 0)) (low (getD numbers 1 0))) first in
+        let told : numberOf a ≡ 30 = sym (p .answer ∙ ap (λ (w : FlatWritten). w .answer) (of-state numbers buffer words is)) ∙ e in
+        never-30-by (way (loadIn numbers) buffer words) (ap (λ (n : ℕ). begun (phaseOf n (high (getD numbers 0 0)))) first)
+        (refused-behind a (λ z. let q : _≡_ {A = ℕ} 0 30 = sym z ∙ told in omega arith) (λ m. let q : _≡_ {A = ℕ} 0xFFFFFFFF 30 = sym m ∙ told in omega arith)
+        ∙ ap Refused told)
 
 -- ---- whole loads
 module _ {buffer : List ℕ} where

@@ -6,7 +6,7 @@ use Rattle.stream.specs.Machine.{Written}
 use Rattle.stream.specs.Leaves.{Writes}
 use Rattle.flat_numbers.specs.Flat.{loadIn, numberOf}
 use Rattle.flat_loads.specs.Calls.{FlatWritten, WritesFlat}
-use Rattle.flat_loads.specs.Kept.{Words}
+use Rattle.flat_loads.specs.Words.{Words}
 
 -- calls one after the other; what a call may leave is for its promise to say
 pub data Chain (S : Type 0) (Permits : S → List ℕ → S → Type 0) : S → List (List ℕ) → S → Type 0 where

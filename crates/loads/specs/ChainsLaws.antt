@@ -11,7 +11,8 @@ use Rattle.stream.specs.Cutting.{writes, unwritten}
 use Rattle.flat_numbers.specs.Flat.{isLoad, loadIn, FreshLoad, numberOf}
 use Rattle.flat_loads.specs.Calls.{FlatWritten, wroteFlat, flattened}
 use Rattle.flat_loads.specs.Through.{of-state}
-use Rattle.flat_loads.specs.Kept.{Words, state-after, is-state-after, six-after}
+use Rattle.flat_loads.specs.Words.{Words}
+use Rattle.flat_loads.specs.Kept.{state-after, is-state-after, six-after}
 use Rattle.loads.specs.Chains.{done, call, Writing, WriteChain, WritingFlat, WriteChainFlat, unwrittenFlat, AllWords, Tells}
 
 -- one permitted write is `wrote`
@@ -58,7 +59,7 @@ follows : {v : Written} {w x : FlatWritten} {cs : List (List ℕ)} → Stated v 
     → (u : Written) × WriteChain v cs u × Tells u x
 follows {v} s small done = (v, done, s .tells)
 follows {v} s small (call {c = c} p q) =
-    let r = follows (stated s (small .0) p) (small .1) q in (r .0, call (record { answer = refl; state = refl; kept = refl }) (r .1), r .2)
+    let r = follows (stated s (small .0) p) (small .1) q in (r .0, call (record { answer = refl; said = refl; state = refl; kept = refl }) (r .1), r .2)
 
 -- a chain by numbers from a fresh load is a chain on the load state
 pub flat-chain : {numbers buffer : List ℕ} {cs : List (List ℕ)} {x : FlatWritten} → FreshLoad numbers → AllWords cs

@@ -18,14 +18,16 @@ use Rattle.image.specs.declared.tables.Table.{Table}
 use Rattle.image.specs.declared.tables.Block.{Block}
 use Rattle.rules.specs.Rules.{ruled}
 use Rattle.stream.specs.Header.{device, idOf, lengthOf, headerOf}
-use Rattle.stream.specs.Headers.{Passes, right}
+use Rattle.stream.specs.Passes.{Passes}
+use Rattle.stream.specs.Headers.{right}
 use Rattle.stream.specs.declared.Answer.{Answer}
 use Rattle.stream.specs.declared.Answer.the-variants.{Loaded, Refused}
 use Rattle.stream.specs.declared.Header.{Header}
 use Rattle.stream.specs.declared.Header.the-variants.{Wrong, Right}
 use Rattle.stream.specs.Paper.{Framed, refused, cut, passed, none, put, had, headedBy, checked, blocks, framed, Outcome, refusedWith, outcomeOf, loaded, Whole, into, asFound, numbered, loadedWords}
 use Rattle.stream.specs.Leaves.{Ends}
-use Rattle.stream.specs.Bridge.{Sound, sound-none, sound-put, image-of}
+use Rattle.stream.specs.Bridge.{Sound}
+use Rattle.stream.specs.BridgeLaws.{sound-none, sound-put, image-of}
 
 -- a stream that passes brings whole entries, and no more of a table than it may have
 abbrev Fair : Framed → Type 0

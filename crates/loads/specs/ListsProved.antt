@@ -20,8 +20,10 @@ use Rattle.stream.specs.Header.{lengthOf}
 use Rattle.stream.specs.Paper.{Framed, passed, none, framed, ended, refusedWith, numbered}
 use Rattle.stream.specs.Machine.{Written, written}
 use Rattle.stream.specs.Ends.{Reached, final}
-use Rattle.stream.specs.Cutting.{writes, unwritten, words, Cuts, cut-reached}
-use Rattle.stream.specs.Order.{Piece, streamed, after, ordered, after-brings}
+use Rattle.stream.specs.Cutting.{writes, unwritten, words, Cuts}
+use Rattle.stream.specs.CuttingLaws.{cut-reached}
+use Rattle.stream.specs.Order.{Piece, streamed, after}
+use Rattle.stream.specs.OrderLaws.{ordered, after-brings}
 use Rattle.flat_numbers.specs.Flat.{FreshLoad, numberOf}
 use Rattle.flat_loads.specs.Calls.{FlatWritten}
 use Rattle.loads.specs.Moves.{RestKept}

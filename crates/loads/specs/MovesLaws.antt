@@ -23,7 +23,8 @@ use Rattle.stream.specs.declared.Load.{Load}
 use Rattle.stream.specs.declared.Phase.{Phase}
 use Rattle.stream.specs.declared.Phase.the-variants.{Device, Id, Length, Sum, Data, Told}
 use Rattle.stream.specs.Machine.{Machine, at, begins, hadIn, placeIn, stepIn, step, run, begun}
-use Rattle.stream.specs.Fine.{Roomy, Fine, placed-inside, step-fine}
+use Rattle.stream.specs.Fine.{Roomy, Fine}
+use Rattle.stream.specs.FineLaws.{placed-inside, step-fine}
 use Rattle.loads.specs.Refusals.{leavesZero}
 use Rattle.loads.specs.Moves.{isTold, Waiting, Move, waits, stores, refuses, loads}
 

@@ -1,7 +1,9 @@
 -- "The image is the first 11,456 words of a lent buffer, whose rest is never written": by no write and no whole load, whatever its answer.
 use mathlib.Core.Path.{refl, sym, _∙_, subst}
 use mathlib.Core.List.{List}
-use Prim.Native.Nat.{ℕ}
+use Prim.Native.Nat.{ℕ, _≤_}
+use lib.ListN.{length}
+use Rattle.image.specs.Layout.{imageWords}
 use Rattle.stream.specs.declared.Answer.{Answer}
 use Rattle.stream.specs.declared.Load.{Load}
 use Rattle.stream.specs.declared.states.Wrote.{Wrote}
@@ -61,3 +63,7 @@ chain-keeps-the-rest (call p q) = on (write-keeps-the-rest p) (chain-keeps-the-r
 pub flat-chain-keeps-the-rest : {w v : FlatWritten} {cs : List (List ℕ)} → WriteChainFlat w cs v → RestKept (w .buffer) (v .buffer)
 flat-chain-keeps-the-rest {w} done = same (w .buffer)
 flat-chain-keeps-the-rest (call p q) = on (flat-write-keeps-the-rest p) (flat-chain-keeps-the-rest q)
+
+-- so a buffer with room for the image has it still
+pub room-kept : {buffer after : List ℕ} → imageWords ≤ length buffer → RestKept buffer after → imageWords ≤ length after
+room-kept room kept = subst (λ (n : ℕ). imageWords ≤ n) (sym (kept .long)) room

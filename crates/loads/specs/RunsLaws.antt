@@ -9,9 +9,10 @@ use lib.ListN.{length, set, drop, replicate, length-append, length-set, length-d
 use lib.Seq.{take-at, drop-at, drop-set-lt, getD-set-same, getD-set-other}
 use borrow.Author.Tests.{eq-eqb, ne-eqb}
 use Rattle.laws.specs.Chain.{pass, zero-first}
-use Rattle.image.specs.Layout.{imageWords, imageIn, markAt, markOf, marked, cleared, getD-in}
+use Rattle.image.specs.Layout.{imageWords, imageIn, markAt, markOf, marked, cleared}
+use Rattle.image.specs.LayoutLaws.{getD-in}
 use Rattle.image.specs.Loaded.{overLimit, incomplete, notLoaded}
-use Rattle.image.specs.Sound.{limits-within}
+use Rattle.image.specs.SoundLaws.{limits-within}
 use Rattle.image.specs.Rows.{mostOf}
 use Rattle.rules.specs.Rules.{ruled}
 use Rattle.stream.specs.declared.Answer.{Answer}
@@ -21,8 +22,9 @@ use Rattle.stream.specs.declared.Phase.{Phase}
 use Rattle.stream.specs.declared.Phase.the-variants.{Device, Id, Length, Sum, Data, Told}
 use Rattle.stream.specs.Paper.{loaded, numbered}
 use Rattle.stream.specs.Machine.{Machine, at, step, run, answerOf, begun, damaged, outside, opened}
-use Rattle.stream.specs.Fine.{Roomy, Fine, cleared-fine, mark-kept, step-fine, undamaged-fine}
-use Rattle.stream.specs.Ends.{whole}
+use Rattle.stream.specs.Fine.{Roomy, Fine}
+use Rattle.stream.specs.FineLaws.{cleared-fine, mark-kept, step-fine, undamaged-fine}
+use Rattle.stream.specs.EndsLaws.{whole}
 use Rattle.loads.specs.Refusals.{leavesZero}
 use Rattle.loads.specs.Moves.{isTold, RestKept, Move, waits, stores, refuses, loads, Says}
 use Rattle.loads.specs.Moves as moves

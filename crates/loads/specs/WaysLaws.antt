@@ -15,8 +15,10 @@ use Rattle.stream.specs.declared.Phase.{Phase}
 use Rattle.stream.specs.declared.Phase.the-variants.{Device, Id, Length, Sum, Data, Told}
 use Rattle.stream.specs.Paper.{loaded, numbered, Whole, into, asFound, loadedWords, wordsOf, loadedBytes}
 use Rattle.stream.specs.Machine.{Machine, at, fresh, run, answerOf, damaged, outside, Written, written, untouched, opened, wrote}
-use Rattle.stream.specs.Fine.{Fine, run-fine}
-use Rattle.stream.specs.Ends.{settledIn, whole}
+use Rattle.stream.specs.Fine.{Fine}
+use Rattle.stream.specs.FineLaws.{run-fine}
+use Rattle.stream.specs.Ends.{settledIn}
+use Rattle.stream.specs.EndsLaws.{whole}
 use Rattle.flat_numbers.specs.Flat.{isLoad}
 use Rattle.flat_loads.specs.Calls.{FlatWritten, asFoundFlat, wroteFlat}
 use Rattle.flat_loads.specs.Through.{no-state, of-state}

@@ -24,5 +24,5 @@ whole-way {buffer} (ofBytes bytes e) = subst (λ (w : Whole). WholeWay buffer w)
 -- the answer behind a number, and that its outcome is permitted
 pub answer-behind : {buffer : List ℕ} {r : ℕ} {after : List ℕ} → WholeLoadFlat buffer r after
     → (answer : Answer) × WholeLoad buffer answer after × (r ≡ numberOf answer)
-answer-behind {buffer} (ofWordsFlat words e) = (loadedWords buffer words .answer, ofWords words (record { told = refl; kept = e .kept }), e .told)
-answer-behind {buffer} (ofBytesFlat bytes e) = (loadedBytes buffer bytes .answer, ofBytes bytes (record { told = refl; kept = e .kept }), e .told)
+answer-behind {buffer} (ofWordsFlat words e) = (loadedWords buffer words .answer, ofWords words (record { told = refl; said = refl; kept = e .kept }), e .told)
+answer-behind {buffer} (ofBytesFlat bytes e) = (loadedBytes buffer bytes .answer, ofBytes bytes (record { told = refl; said = refl; kept = e .kept }), e .told)

@@ -4,7 +4,7 @@ use mathlib.Core.List.{List}
 use Prim.Native.Nat.{ℕ, _<_}
 use lib.Dec.{eqb}
 use borrow.Author.Tests.{eq-eqb, ne-eqb}
-use Rattle.laws.specs.Scan.{first-found, first-of-none}
+use Rattle.laws.specs.ScanLaws.{first-found, first-of-none}
 use Rattle.image.specs.Layout.{countOf}
 use Rattle.image.specs.declared.tables.Table.the-variants.{VlanLookup}
 use Rattle.fields.specs.Fields.{vlanid}

@@ -10,7 +10,8 @@ use Rattle.image.specs.Layout.{imageIn}
 use Rattle.ledger.specs.declared.Answer.{Answer}
 use Rattle.ledger.specs.Row.{units, credit, since, many, cellCount, cell}
 use Rattle.ledger.specs.Laws.{cells, other-place}
-use Rattle.row.specs.Release.{releaseRefusal, givenTo, released, releasable, Released}
+use Rattle.row.specs.Release.{releaseRefusal, givenTo, released, Released}
+use Rattle.row.specs.ReleaseLaws.{releasable}
 use Rattle.spend.specs.declared.Meter.{Meter}
 use Rattle.spend.specs.Meter.{cost}
 use Rattle.spend.specs.Spend.{spent, unitsOf, paidOf, creditAt, spentOf}
@@ -18,15 +19,17 @@ use Rattle.spend.specs.Proved.{now-stored}
 use Rattle.frame.specs.Bytes.{octetsOf}
 use Rattle.plan.specs.declared.Course.{Course}
 use Rattle.plan.specs.declared.Planned.the-variants.{Goes}
-use Rattle.plan.specs.Laws.{Sane}
+use Rattle.plan.specs.Sane.{Sane}
 use Rattle.settle.specs.declared.Verdict.{Verdict}
 use Rattle.settle.specs.declared.Verdict.the-variants.{Refused, Drop, Sent}
 use Rattle.settle.specs.Settle.{meterOf, heldAt, Judged}
 use Rattle.settle.specs.Note.{noted}
 use Rattle.settle.specs.Noted.{credit-kept, since-kept}
 use Rattle.judge.specs.Judge.{planFor, judgeOf, Judges}
-use Rattle.judge.specs.Laws.{Admitted, runs}
-use Rattle.judge.specs.Cases.{rowAfter, by-cases}
+use Rattle.judge.specs.Admitted.{Admitted}
+use Rattle.judge.specs.Laws.{runs}
+use Rattle.judge.specs.After.{rowAfter}
+use Rattle.judge.specs.Cases.{by-cases}
 use Rattle.flat_answers.specs.declared.FlatVerdict.{FlatVerdict}
 use Rattle.flat_answers.specs.Answers.{flatVerdict}
 use Rattle.flat_frames.specs.Frames.{JudgesFlat, ReleasesFlat}

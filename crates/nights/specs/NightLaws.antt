@@ -2,13 +2,16 @@
 use mathlib.Core.Path.{_≡_, refl, sym, _∙_, ap}
 use mathlib.Core.Bool.{Bool, cond}
 use mathlib.Core.List.{List, [], _∷_}
-use Prim.Native.Nat.{ℕ}
+use Prim.Native.Nat.{ℕ, _≤_}
 use lib.Dec.{eqb}
-use Rattle.image.specs.Layout.{imageIn}
+use lib.ListN.{length}
+use borrow.Author.Tests.{le-ltb}
+use Rattle.image.specs.Layout.{imageWords, imageIn}
 use Rattle.image.specs.Loaded.{tooShort, notLoaded}
 use Rattle.ledger.specs.declared.Answer.{Answer}
 use Rattle.ledger.specs.declared.Answer.the-variants.{Done}
-use Rattle.ledger.specs.Answers.{answerOf, numberOf, numbered}
+use Rattle.ledger.specs.Answers.{answerOf, numberOf}
+use Rattle.ledger.specs.AnswersLaws.{numbered}
 use Rattle.ledger.specs.Range.{unloaded}
 use Rattle.row.specs.Fresh.{freshOf, noLedger, freshened, Freshened}
 use Rattle.row.specs.Release.{Released}
@@ -18,13 +21,12 @@ use Rattle.settle.specs.Settle.{Judged}
 use Rattle.judge.specs.Judge.{Judges}
 use Rattle.judge.specs.Proved.{same-judgement}
 use Rattle.tile.specs.declared.shares.Asked.{Asked}
-use Rattle.tile.specs.Tiles.{askedOf, Tiled, same-tile}
+use Rattle.tile.specs.Tiles.{askedOf, Tiled}
+use Rattle.tile.specs.TilesLaws.{same-tile}
 use Rattle.kept.specs.History.{Event, frame, release, step, after}
-use Rattle.flat_answers.specs.declared.FlatVerdict.{FlatVerdict}
-use Rattle.flat_answers.specs.declared.FlatTile.{FlatTile}
 use Rattle.flat_answers.specs.Answers.{flatVerdict, flatTile}
 use Rattle.flat_frames.specs.Frames.{FreshensFlat, JudgesFlat, ReleasesFlat, TilesFlat}
-use Rattle.nights.specs.Nights.{Said, verdict, answer, Run, end, judges, releases, Night, NightOf, NightFlat, saidTo, saidOf, Says, SameNight}
+use Rattle.nights.specs.Nights.{Said, verdict, answer, Run, end, judges, releases, Night, NightOf, NightFlat, saidTo, saidOf, Says, SameNight, Alike, AlikeFlat}
 
 -- Rattle's entries say it as it is
 pub says-of : (buffer : List ℕ) → Says (λ (v : Verdict). v) answerOf (λ (t : Asked). t) buffer (Freshened buffer) (Judges buffer) (Released buffer) (Tiled buffer)
@@ -170,19 +172,27 @@ module _ {Verdicts Answers Tiles : Type 0} {first second : Answers} {g h : List 
   back m = record { fresh = sym (m .fresh); begun = sym (m .begun); answers = sym (m .answers); row = sym (m .row); tiles = λ p l. sym (m .tiles p l) }
 
 -- "one sequence of frames and releases gets, from fresh ledgers, the same verdicts and tiles under both"
-pub same-night : (a b : List ℕ) → tooShort a ≡ tooShort b → imageIn a ≡ imageIn b → (es : List Event) {first second : Answer} {g h z y : List ℕ}
-    {said told : List (Said Verdict Answer)} {tile shown : ℕ → Asked}
-    → NightOf a es first g said z tile
-    → NightOf b es second h told y shown
-    → SameNight first second g h said told z y tile shown
-same-night a b long image es m n =
-    then (night-is (says-of a) m) (then (same-defined a b long image (λ (v : Verdict). v) answerOf (λ (t : Asked). t) es) (back (night-is (says-of b) n)))
+pub same-night : (a b : List ℕ) → tooShort a ≡ tooShort b → imageIn a ≡ imageIn b → Alike a b
+same-night a b long image =
+    record {
+      same =
+          λ es m n. then (night-is (says-of a) m) (then (same-defined a b long image (λ (v : Verdict). v) answerOf (λ (t : Asked). t) es) (back (night-is (says-of b) n)));
+    }
 
 -- and at the entries for C and Rust
-pub same-night-flat : (a b : List ℕ) → tooShort a ≡ tooShort b → imageIn a ≡ imageIn b → (es : List Event) {first second : ℕ} {g h z y : List ℕ}
-    {said told : List (Said FlatVerdict ℕ)} {tile shown : ℕ → FlatTile}
-    → NightFlat a es first g said z tile
-    → NightFlat b es second h told y shown
-    → SameNight first second g h said told z y tile shown
-same-night-flat a b long image es m n =
-    then (night-is (says-flat a) m) (then (same-defined a b long image flatVerdict (λ (k : ℕ). k) flatTile es) (back (night-is (says-flat b) n)))
+pub same-night-flat : (a b : List ℕ) → tooShort a ≡ tooShort b → imageIn a ≡ imageIn b → AlikeFlat a b
+same-night-flat a b long image =
+    record {
+      same = λ es m n. then (night-is (says-flat a) m) (then (same-defined a b long image flatVerdict (λ (k : ℕ). k) flatTile es) (back (night-is (says-flat b) n)));
+    }
+
+-- two buffers with room and one image
+module _ (a b : List ℕ) (ra : imageWords ≤ length a) (rb : imageWords ≤ length b) where
+  both-long : tooShort a ≡ tooShort b
+  both-long = le-ltb (length a) imageWords ra ∙ sym (le-ltb (length b) imageWords rb)
+
+  pub alike : imageIn a ≡ imageIn b → Alike a b
+  alike = same-night a b both-long
+
+  pub alike-flat : imageIn a ≡ imageIn b → AlikeFlat a b
+  alike-flat = same-night-flat a b both-long

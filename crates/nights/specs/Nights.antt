@@ -85,3 +85,17 @@ pub record SameNight {Verdicts Answers Tiles : Type 0} (first other : Answers) (
   pub answers : said ≡ told
   pub row : z ≡ y
   pub tiles : (p : ℕ) → p < 5 → tile p ≡ shown p
+
+-- two buffers under which any two permitted nights of the same frames and releases are the same: "the same verdicts and tiles under both"
+pub record Alike (a b : List ℕ) : Type 0 where
+  pub same : (es : List Event) {first second : Answer} {g h : List ℕ} {said told : List (Said Verdict Answer)} {z y : List ℕ} {tile shown : ℕ → Asked}
+      → NightOf a es first g said z tile
+      → NightOf b es second h told y shown
+      → SameNight first second g h said told z y tile shown
+
+-- and at the entries for C and Rust
+pub record AlikeFlat (a b : List ℕ) : Type 0 where
+  pub same : (es : List Event) {first second : ℕ} {g h : List ℕ} {said told : List (Said FlatVerdict ℕ)} {z y : List ℕ} {tile shown : ℕ → FlatTile}
+      → NightFlat a es first g said z tile
+      → NightFlat b es second h told y shown
+      → SameNight first second g h said told z y tile shown

@@ -8,9 +8,11 @@ use Rattle.laws.specs.Chain.{at-zero, not-zero}
 use Rattle.image.specs.Layout.{imageIn}
 use Rattle.ledger.specs.declared.Answer.{Answer}
 use Rattle.ledger.specs.declared.Answer.the-variants as answer
-use Rattle.ledger.specs.Answers.{answerOf, numberOf, numbered}
+use Rattle.ledger.specs.Answers.{answerOf, numberOf}
+use Rattle.ledger.specs.AnswersLaws.{numbered}
 use Rattle.ledger.specs.Range.{outOfRange, unloaded}
-use Rattle.row.specs.Fresh.{freshOf, noLedger, freshened, Freshened, refused-everywhere}
+use Rattle.row.specs.Fresh.{freshOf, noLedger, freshened, Freshened}
+use Rattle.row.specs.FreshLaws.{refused-everywhere}
 use Rattle.row.specs.Release.{releaseRefusal, givenTo, released, Released}
 use Rattle.settle.specs.declared.Verdict.{Verdict}
 use Rattle.settle.specs.declared.Verdict.the-variants.{Refused}

@@ -13,25 +13,30 @@ use Rattle.image.specs.Layout.{imageIn}
 use Rattle.ledger.specs.Row.{frames, drops, octets, dropped, last, start, many, cellCount, cell}
 use Rattle.ledger.specs.Laws.{cells, other-place}
 use Rattle.row.specs.Fresh.{freshOf}
-use Rattle.row.specs.Release.{releaseRefusal, givenTo, released, releasable}
+use Rattle.row.specs.Release.{releaseRefusal, givenTo, released}
+use Rattle.row.specs.ReleaseLaws.{releasable}
 use Rattle.spend.specs.declared.Counts.{Counts}
 use Rattle.spend.specs.Spend.{countedOf}
 use Rattle.frame.specs.Bytes.{octetsOf}
 use Rattle.ports.specs.declared.Sending.{Sending}
 use Rattle.plan.specs.declared.Course.{Course}
-use Rattle.plan.specs.Laws.{Sane}
+use Rattle.plan.specs.Sane.{Sane}
 use Rattle.settle.specs.declared.Verdict.{Verdict}
 use Rattle.settle.specs.declared.Verdict.the-variants.{Refused, Drop, Sent}
 use Rattle.settle.specs.Settle.{Judged}
 use Rattle.settle.specs.Note.{countsAt, noted}
-use Rattle.settle.specs.Countable.{counts-kept}
+use Rattle.settle.specs.CountableLaws.{counts-kept}
 use Rattle.judge.specs.Judge.{judgeOf}
-use Rattle.judge.specs.Laws.{Admitted, runs}
-use Rattle.judge.specs.Cases.{rowAfter, by-cases}
+use Rattle.judge.specs.Admitted.{Admitted}
+use Rattle.judge.specs.Laws.{runs}
+use Rattle.judge.specs.After.{rowAfter}
+use Rattle.judge.specs.Cases.{by-cases}
 use Rattle.kept.specs.Lists.{same-or-not}
 use Rattle.kept.specs.Fresh.{fresh-zero}
-use Rattle.kept.specs.Kept.{Kept, fresh-kept}
-use Rattle.kept.specs.History.{Event, frame, release, step, after, step-kept}
+use Rattle.kept.specs.Kept.{Kept}
+use Rattle.kept.specs.KeptLaws.{fresh-kept}
+use Rattle.kept.specs.History.{Event, frame, release, step, after}
+use Rattle.kept.specs.HistoryLaws.{step-kept}
 use Rattle.flat_answers.specs.Answers.{flatVerdict}
 use Rattle.nights.specs.Nights.{Said, saidTo, saidOf}
 use Rattle.nights.specs.Sums.{Kind, refused, dropped as droppedKind, sent, kindOf, kindFlat, sumOver, atPort, frameIn, dropIn, octetsIn, droppedIn, sumsOf}

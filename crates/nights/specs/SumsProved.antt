@@ -14,7 +14,7 @@ use Rattle.image.specs.Layout.{imageIn}
 use Rattle.image.specs.Loaded.{tooShort, notLoaded}
 use Rattle.ledger.specs.declared.Answer.{Answer}
 use Rattle.ledger.specs.declared.Answer.the-variants.{Done}
-use Rattle.ledger.specs.Laws.{Counted}
+use Rattle.ledger.specs.Stands.{Counted}
 use Rattle.ledger.specs.Range.{unloaded}
 use Rattle.row.specs.Fresh.{freshOf, Freshened}
 use Rattle.spend.specs.declared.Counts.{Counts}
@@ -25,11 +25,14 @@ use Rattle.tile.specs.declared.shares.Asked.{Asked}
 use Rattle.tile.specs.declared.shares.Asked.the-variants.{Shown}
 use Rattle.tile.specs.Tiles.{shareOf, tileOf, askedOf, Tiled, bitsOf}
 use Rattle.tile.specs.Shares.{perfect, share-real}
-use Rattle.kept.specs.Kept.{Kept, fresh-kept}
-use Rattle.kept.specs.History.{Event, step, after, step-kept, never-39}
+use Rattle.kept.specs.Kept.{Kept}
+use Rattle.kept.specs.KeptLaws.{fresh-kept}
+use Rattle.kept.specs.History.{Event, step, after}
+use Rattle.kept.specs.HistoryLaws.{step-kept, never-39}
 use Rattle.flat_answers.specs.declared.FlatVerdict.{FlatVerdict}
 use Rattle.flat_answers.specs.declared.FlatTile.{FlatTile}
-use Rattle.flat_answers.specs.Answers.{flatShown, flatTile, shown-as}
+use Rattle.flat_answers.specs.Answers.{flatShown, flatTile}
+use Rattle.flat_answers.specs.AnswersLaws.{shown-as}
 use Rattle.flat_frames.specs.Frames.{FreshensFlat, TilesFlat}
 use Rattle.nights.specs.Nights.{Said, Run, RunOf, RunFlat, NightOf, NightFlat, Says}
 use Rattle.nights.specs.NightLaws.{says-of, says-flat, not-refused, fresh-run-is}

@@ -19,7 +19,8 @@ use Rattle.ledger.specs.Range.{unloaded}
 use Rattle.ledger.specs.Row.{units, many, cellCount, cell, put}
 use Rattle.ledger.specs.Laws.{cells, other-place}
 use Rattle.row.specs.Fresh.{freshOf, Freshened}
-use Rattle.row.specs.Release.{releaseRefusal, givenTo, released, releasable}
+use Rattle.row.specs.Release.{releaseRefusal, givenTo, released}
+use Rattle.row.specs.ReleaseLaws.{releasable}
 use Rattle.spend.specs.declared.Meter.{Meter}
 use Rattle.spend.specs.declared.Spent.{Spent}
 use Rattle.spend.specs.Meter.{cost}
@@ -28,18 +29,21 @@ use Rattle.frame.specs.Bytes.{octetsOf}
 use Rattle.plan.specs.declared.Course.{Course}
 use Rattle.plan.specs.declared.Planned.the-variants.{Goes}
 use Rattle.plan.specs.Enter.{enterOf}
-use Rattle.plan.specs.Laws.{Sane}
+use Rattle.plan.specs.Sane.{Sane}
 use Rattle.settle.specs.declared.Verdict.{Verdict}
 use Rattle.settle.specs.Settle.{meterOf, heldAt, Judged}
 use Rattle.settle.specs.Note.{noted}
 use Rattle.settle.specs.Noted.{units-kept}
 use Rattle.tile.specs.declared.shares.Asked.{Asked}
 use Rattle.judge.specs.Judge.{planFor, judgeOf}
-use Rattle.judge.specs.Laws.{Admitted, runs}
-use Rattle.judge.specs.Cases.{spentAt, rowAfter, by-cases}
+use Rattle.judge.specs.Admitted.{Admitted}
+use Rattle.judge.specs.Laws.{runs}
+use Rattle.judge.specs.After.{spentAt, rowAfter}
+use Rattle.judge.specs.Cases.{by-cases}
 use Rattle.kept.specs.Lists.{same-or-not}
 use Rattle.kept.specs.Fresh.{fresh-units}
-use Rattle.kept.specs.Kept.{Kept, fresh-kept}
+use Rattle.kept.specs.Kept.{Kept}
+use Rattle.kept.specs.KeptLaws.{fresh-kept}
 use Rattle.kept.specs.History.{Event, frame, release, step, after}
 use Rattle.flat_answers.specs.declared.FlatVerdict.{FlatVerdict}
 use Rattle.flat_frames.specs.Frames.{FreshensFlat}

@@ -15,7 +15,8 @@ use Rattle.image.specs.Loaded.{overLimit}
 use Rattle.image.specs.Rows.{sizeOf, mostOf}
 use Rattle.image.specs.RowLaws.{room-inside}
 use Rattle.image.specs.declared.tables.Table.{Table}
-use Rattle.stream.specs.Fine.{Roomy, undamaged-fine}
+use Rattle.stream.specs.Fine.{Roomy}
+use Rattle.stream.specs.FineLaws.{undamaged-fine}
 use Rattle.stream.specs.Machine.{Machine, at, filling, placeIn, begun, overdueIn, beyond, damaged, outside, run, written, wrote}
 use Rattle.stream.specs.declared.Answer.the-variants.{More}
 use Rattle.stream.specs.declared.Load.{Load}

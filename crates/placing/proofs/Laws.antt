@@ -14,9 +14,10 @@ use Rattle.image.specs.Layout.{entryWords, counted}
 use Rattle.image.specs.declared.tables.Table.{Table}
 use Rattle.stream.specs.Machine.{Machine, at, idle, filling, refuse, hadIn, placeIn, filled}
 use Rattle.placing.specs.Places.{RoomOf}
-use Rattle.image.specs.RowLaws.{RowOf, size-positive}
+use Rattle.image.specs.Placed.{RowOf}
+use Rattle.image.specs.RowLaws.{size-positive}
 use Rattle.image.specs.declared.tables.Row.{Row}
-use Rattle.stream.specs.Fine.{raised}
+use Rattle.stream.specs.FineLaws.{raised}
 
 -- ---- a block's place
 -- what a table's row and its count give

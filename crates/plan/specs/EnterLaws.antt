@@ -1,4 +1,4 @@
--- What a frame that steps 1 to 6 let in has.
+-- That a frame which steps 1 to 6 let in has it.
 use mathlib.Core.Path.{_≡_, refl, sym, _∙_, ap}
 use mathlib.Core.Bool.{Bool, true, false, cond}
 use mathlib.Core.List.{List}
@@ -8,7 +8,7 @@ use lib.Dec.{eqb}
 use lib.ListN.{length}
 use borrow.Author.Tests.{eqb-false}
 use Rattle.laws.specs.Chain.{at-zero, not-zero}
-use Rattle.laws.specs.Scan.{first-within}
+use Rattle.laws.specs.ScanLaws.{first-within}
 use Rattle.image.specs.Layout.{countOf}
 use Rattle.image.specs.declared.tables.Table.the-variants.{VlanLookup}
 use Rattle.fields.specs.Fields.{vlanid}
@@ -17,18 +17,14 @@ use Rattle.frame.specs.declared.Intake.{Intake}
 use Rattle.frame.specs.declared.Intake.the-variants as intake
 use Rattle.frame.specs.Bytes.{sourceOf}
 use Rattle.frame.specs.Intake.{intakeOf}
-use Rattle.frame.specs.Laws.{Whole, whole}
+use Rattle.frame.specs.Whole.{Whole}
+use Rattle.frame.specs.Laws.{whole}
 use Rattle.plan.specs.declared.enter.Placed.{Placed}
 use Rattle.plan.specs.declared.enter.Placed.the-variants.{Absent, At}
-use Rattle.plan.specs.declared.enter.Entered.{Entered}
 use Rattle.plan.specs.declared.enter.Entered.the-variants.{Dropped, In}
 use Rattle.plan.specs.Steps.{placedOf, keptOut}
 use Rattle.plan.specs.Enter.{byPlace, byIntake, enterOf}
-
--- where 4 finds an entry, it is one of 07's
-abbrev pub Inside : List ℕ → Placed → Type 0
-Inside image Absent = Unit {0}
-Inside image (At place) = place < countOf image VlanLookup
+use Rattle.plan.specs.LetIn.{Inside, Through}
 
 pub inside : (image : List ℕ) (vlan : ℕ) → Inside image (placedOf image vlan)
 unfolding placedOf
@@ -50,16 +46,6 @@ module _ (image : List ℕ) (port : ℕ) (frame : List ℕ) (vlan priority : ℕ
   pub is-let-in : q ≡ At place → source ≡ sourceOf frame → n ≡ keptOut image port vlan tagged source place → n ≡ 0
       → In vlan place priority ≡ byPlace image port frame vlan priority tagged q
   is-let-in e h k z = rw e (at-zero n _ _ _ _ (k ∙ ap (λ (x : ℕ). keptOut image port vlan tagged x place) h) z refl)
-
--- a frame that is let in: sixty bytes, a place of 07, a priority of three bits
-pub record LetIn (image frame : List ℕ) (place priority : ℕ) : Type 0 where
-  pub long : 60 ≤ length frame
-  pub there : place < countOf image VlanLookup
-  pub narrow : priority < 8
-
-abbrev pub Through : List ℕ → List ℕ → Entered → Type 0
-Through image frame (Dropped n) = Unit {0}
-Through image frame (In vlan place priority) = LetIn image frame place priority
 
 pub through : (image : List ℕ) (port : ℕ) (frame : List ℕ) → Through image frame (enterOf image port frame)
 unfolding enterOf

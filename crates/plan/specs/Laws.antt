@@ -1,4 +1,4 @@
--- What a course has.
+-- That every plan's course has it.
 use mathlib.Core.Path.{_≡_, refl, sym, _∙_, ap, subst}
 use mathlib.Core.Bool.{Bool, true, false, cond}
 use mathlib.Core.List.{List}
@@ -8,7 +8,8 @@ use lib.Pow.{pow-pos}
 use lib.Dec.{ltb, leb}
 use borrow.Author.Tests.{leb-false}
 use Rattle.image.specs.Layout.{imageIn, countOf, Held}
-use Rattle.image.specs.Sound.{Sound, held}
+use Rattle.image.specs.Sound.{Sound}
+use Rattle.image.specs.SoundLaws.{held}
 use Rattle.image.specs.declared.tables.Table.the-variants.{Policing}
 use Rattle.fields.specs.Fields.{sharindx, maxlen, smax, rate, partition}
 use Rattle.frame.specs.Bytes.{octetsOf, destinationOf}
@@ -17,10 +18,9 @@ use Rattle.ports.specs.Ports.{portsOf, sendingOf}
 use Rattle.plan.specs.declared.Policed.{Policed}
 use Rattle.plan.specs.declared.Policed.the-variants.{Unmetered, TooLong, By}
 use Rattle.plan.specs.declared.Course.{Course}
-use Rattle.plan.specs.declared.Planned.{Planned}
-use Rattle.plan.specs.declared.Planned.the-variants.{Dropped, Goes}
 use Rattle.plan.specs.Police.{policerOf, meteredBy, policedOf}
 use Rattle.plan.specs.Plan.{courseOf, byPolicer, planOf}
+use Rattle.plan.specs.Sane.{Loaded, Follows}
 
 -- a course by what was read for it
 abbrev course : ℕ → ℕ → ℕ → ℕ → Sending → Course
@@ -37,12 +37,6 @@ same-course image port destination vlan place priority policer meter s r p to v 
     ∙ ap (λ (x : ℕ). course meter (smax image meter) x p v) b
     ∙ ap (λ (x : ℕ). course meter (smax image meter) (rate image meter) x v) c
     ∙ ap (course meter (smax image meter) (rate image meter) (partition image policer)) (e ∙ ap (λ (x : ℕ). sendingOf image port x vlan priority place) d)
-
--- where 7 and 8 find entries, both are loaded
-abbrev pub Loaded : List ℕ → Policed → Type 0
-Loaded image Unmetered = Unit {0}
-Loaded image TooLong = Unit {0}
-Loaded image (By policer meter) = (policer < countOf image Policing) × (meter < countOf image Policing)
 
 -- and can be read, by an answer q that was matched
 pub policer-held : (buffer : List ℕ) (q : Policed) (k m : ℕ) → Sound buffer → Loaded (imageIn buffer) q → q ≡ By k m → Held Policing k buffer
@@ -73,18 +67,6 @@ policed image port priority destination octets = by (leb (countOf image Policing
     by : (t : Bool) → t ≡ leb (countOf image Policing) k → Loaded image (cond t Unmetered (meteredBy image k (sharindx image k) octets))
     by true e = tt
     by false e = seven (leb-false (countOf image Policing) k (sym e)) (leb (countOf image Policing) m) refl
-
--- a course's meter is a loaded entry's, with its SMAX; its partition is one of the eight; SMAX and RATE have sixteen bits
-pub record Sane (image : List ℕ) (w : Course) : Type 0 where
-  pub meter : w .meter < countOf image Policing
-  pub own : w .smax ≡ smax image (w .meter)
-  pub smax : w .smax < 65536
-  pub rate : w .rate < 65536
-  pub partition : w .partition < 8
-
-abbrev pub Follows : List ℕ → Planned → Type 0
-Follows image (Dropped n) = Unit {0}
-Follows image (Goes w) = Sane image w
 
 pub follows : (image : List ℕ) (port : ℕ) (frame : List ℕ) (vlan place priority : ℕ) → Follows image (planOf image port frame vlan place priority)
 unfolding planOf courseOf

@@ -9,7 +9,7 @@ ghost use Rattle.image.specs.Sound.{Sound};
 ghost use Rattle.image.specs.declared.tables.Table.the-variants.{VlanLookup};
 ghost use Rattle.plan.specs.Steps.{placedOf, outsider, keptOut};
 ghost use Rattle.plan.specs.Enter.{byPlace, enterOf};
-ghost use Rattle.plan.specs.EnterLaws.{Inside};
+ghost use Rattle.plan.specs.LetIn.{Inside};
 
 // Step 4: the VLAN's place in 07.
 pub enum Placed {

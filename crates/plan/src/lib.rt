@@ -9,10 +9,10 @@ ghost use Prim.Native.Nat.{_<_};
 ghost use Rattle.image.specs.Layout.{imageIn, countOf};
 ghost use Rattle.image.specs.Sound.{Sound};
 ghost use Rattle.image.specs.declared.tables.Table.the-variants.{Policing, VlanLookup};
-ghost use Rattle.plan.specs.EnterLaws.{LetIn};
+ghost use Rattle.plan.specs.LetIn.{LetIn};
 ghost use Rattle.plan.specs.Police.{policerOf, meteredBy, policedBy};
 ghost use Rattle.plan.specs.Plan.{byPolicer, planOf};
-ghost use Rattle.plan.specs.Laws.{Loaded};
+ghost use Rattle.plan.specs.Sane.{Loaded};
 
 // Steps 7 and 8: no meter to use, too long for its policing entry, or let through by entry `policer` with the meter of entry `meter`.
 pub enum Policed {

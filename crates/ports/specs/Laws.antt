@@ -1,13 +1,13 @@
 -- Equal parts make equal wholes.
 use mathlib.Core.Path.{_≡_, refl, _∙_, ap}
 use mathlib.Core.Bool.{false}
-use Prim.Native.Nat.{ℕ, zero, suc, _-_, _/_, _%_, _^_, _<_}
+use Prim.Native.Nat.{ℕ, zero, suc, _/_, _%_, _^_, _<_}
 use native.Mathlib.Omega.{arith}
 use lib.Bits.{bitAnd, and-shr, and-mod, and-zero-r}
 use lib.Dec.{eqb}
 use Rattle.addresses.specs.Address.{holds}
-use Rattle.ports.specs.declared.Sending.{Sending}
 use Rattle.ports.specs.Ports.{maskOf, others, cut}
+use Rattle.ports.specs.Sent.{sending}
 
 pub same-cut : (a b c d e a' b' c' d' e' : ℕ) → a ≡ a' → b ≡ b' → c ≡ c' → d ≡ d' → e ≡ e' → cut a b c d e ≡ cut a' b' c' d' e'
 same-cut a b c d e a' b' c' d' e' p q r s t =
@@ -16,10 +16,6 @@ same-cut a b c d e a' b' c' d' e' p q r s t =
     ∙ ap (λ (x : ℕ). cut a' b' x d e) r
     ∙ ap (λ (x : ℕ). cut a' b' c' x e) s
     ∙ ap (λ (x : ℕ). cut a' b' c' d' x) t
-
-abbrev pub sending : ℕ → ℕ → ℕ → ℕ → ℕ → ℕ → ℕ → ℕ → ℕ → Sending
-sending p v q t a b c d e =
-    record { ports = p; vlan = v; priority = q; tags = t; queue0 = a; queue1 = b; queue2 = c; queue3 = d; queue4 = e }
 
 pub same-sending : (p v q t a b c d e t' a' b' c' d' e' : ℕ) → t ≡ t' → a ≡ a' → b ≡ b' → c ≡ c' → d ≡ d' → e ≡ e'
     → sending p v q t a b c d e ≡ sending p v q t' a' b' c' d' e'

@@ -1,153 +1,201 @@
--- Demand 1. No entry has a `requires`, so each always ends in an answer. What a refusal leaves: zero or untouched; and what is not loaded is not judged.
-use mathlib.Core.Path.{_≡_, refl, sym, _∙_, ap}
-use mathlib.Core.Bool.{Bool, true, false, cond, not}
-use mathlib.Core.List.{List}
-use Prim.Native.Nat.{ℕ, _%_, _<_}
-use lib.Dec.{ltb, eqb}
-use lib.ListN.{length, replicate}
-use native.Mathlib.Nat.{le-of-suc-le-suc}
-use borrow.Author.Tests.{ne-eqb, le-ltb}
-use Rattle.laws.specs.Chain.{hit, pass}
-use Rattle.image.specs.Layout.{imageWords, imageIn, imageOf}
+-- Demand 1. "It takes every stream, image, ledger, frame and list to an end. The public entries test what they need and refuse by number." Every function
+-- is shown to end, and no entry asks anything of its caller; here is what a refusal leaves, and that whatever did not load is never judged.
+use mathlib.Core.Path.{_≡_}
+use mathlib.Core.Bool.{Bool, true, false}
+use mathlib.Core.List.{List, [], _∷_}
+use Prim.Native.Nat.{ℕ}
+use lib.ListN.{length, getD, replicate}
+use Rattle.image.specs.Layout.{imageWords, imageIn}
 use Rattle.image.specs.Loaded.{tooShort, notLoaded}
-use Rattle.rules.specs.Rules.{ruled}
-use Rattle.stream.specs.Paper.{Framed, refused, cut, passed, outcomeOf, framed, loaded, refusedWith, loadedWords, loadedBytes, asFound}
-use Rattle.stream.specs.Machine.{wrote, untouched, damaged, outside}
+use Rattle.stream.specs.declared.Answer.{Answer}
+use Rattle.stream.specs.declared.Answer.the-variants.{More, Loaded, Refused}
 use Rattle.stream.specs.declared.Load.{Load}
-use Rattle.ledger.specs.Range.{outOfRange, unloaded, standing}
-use Rattle.row.specs.Fresh.{freshOf, noLedger, freshened, Freshened, refused-everywhere}
-use Rattle.ledger.specs.declared.Answer.{Answer}
-use Rattle.ledger.specs.declared.Answer.the-variants as answer
-use Rattle.row.specs.Release.{releaseRefusal, givenTo, released, Released}
-use Rattle.tile.specs.declared.shares.Tile.the-variants.{NotLoaded}
-use Rattle.tile.specs.declared.shares.Asked.the-variants.{Shown}
-use Rattle.tile.specs.Tiles.{askedOf}
+use Rattle.stream.specs.declared.Phase.the-variants.{Told}
+use Rattle.stream.specs.declared.states.Wrote.{Wrote}
+use Rattle.stream.specs.Paper.{numbered}
+use Rattle.stream.specs.Machine.{begun, damaged, outside, Written}
+use Rattle.stream.specs.Cutting.{unwritten}
+use Rattle.stream.specs.Leaves.{Writes}
+use Rattle.ledger.specs.declared.Answer as ledger
+use Rattle.ledger.specs.declared.Answer.the-variants as answered
+use Rattle.ledger.specs.Range.{outOfRange}
+use Rattle.row.specs.Fresh.{noLedger, Freshened}
+use Rattle.row.specs.Release.{Released}
 use Rattle.settle.specs.declared.Verdict.{Verdict}
-use Rattle.settle.specs.declared.Verdict.the-variants.{Refused}
-use Rattle.judge.specs.Refusal.{refusalOf}
-use Rattle.settle.specs.Settle.{Judged, judged}
-use Rattle.judge.specs.Judge.{judgeOf, Judges}
-use Rattle.judge.specs.Proved.{refused-unchanged}
+use Rattle.settle.specs.declared.Verdict.the-variants as verdict
+use Rattle.judge.specs.Judge.{Judges}
+use Rattle.flat_numbers.specs.Flat.{low, loadIn, FreshLoad}
 use Rattle.flat_answers.specs.declared.FlatVerdict.{FlatVerdict}
-use Rattle.flat_answers.specs.Answers.{flatVerdict}
+use Rattle.flat_loads.specs.Calls.{FlatWritten, WritesFlat}
 use Rattle.flat_frames.specs.Frames.{FreshensFlat, JudgesFlat, ReleasesFlat}
+use Rattle.loads.specs.Chains.{WriteChain, WriteChainFlat, unwrittenFlat, AllWords}
+use Rattle.loads.specs.Refusals.{OneOf, RefusedWith, leaveAsFound}
+use Rattle.loads.specs.Moves.{isTold, RestKept}
+use Rattle.loads.specs.Wholes.{WholeLoad, WholeLoadFlat}
+use Rattle.loads.specs.Rest as rest
+use Rattle.loads.specs.AsFound as found
+use Rattle.loads.specs.Marked as marked
+use Rattle.nights.specs.Loaded.{NeverJudged, NeverThirty}
+use Rattle.nights.specs.LoadedProved.{never-judged, never-thirty}
+use Rattle.nights.specs.RefusedProved as refused
 
--- "A refused load leaves the lent image all zero"
-zero-unless-loaded : (f : Framed) → (outcomeOf f .number ≡ 0 → ⊥) → outcomeOf f .image ≡ replicate imageWords 0
-zero-unless-loaded (refused n) h = refl
-zero-unless-loaded cut h = refl
-zero-unless-loaded (passed lists) h = go (eqb (ruled (imageOf lists)) 0) h
-  where
-    go : (t : Bool) → (cond t (record { number = 0; image = imageOf lists }) (refusedWith (ruled (imageOf lists))) .number ≡ 0 → ⊥)
-        → cond t (record { number = 0; image = imageOf lists }) (refusedWith (ruled (imageOf lists))) .image ≡ replicate imageWords 0
-    go true ne = absurd (ne refl)
-    go false ne = refl
+-- ---- "A refused load leaves the lent image all zero, or untouched where document 01 says so"
 
-pub refused-load-is-zero : (words : List ℕ) → (loaded words .number ≡ 0 → ⊥) → loaded words .image ≡ replicate imageWords 0
-refused-load-is-zero words h = zero-unless-loaded (framed words) h
+-- a whole load, of words or of bytes: any answer but loaded, 9 and 31
+pub refused-load-is-zero : {buffer : List ℕ} {answer : Answer} {after : List ℕ} → WholeLoad buffer answer after → (answer ≡ Loaded → ⊥)
+    → (RefusedWith (9 ∷ 31 ∷ []) answer → ⊥)
+    → imageIn after ≡ replicate imageWords 0
+refused-load-is-zero = found.refused-whole-load-is-zero
 
--- "or untouched where document 01 says so": 31
-pub short-buffer-untouched : (buffer words : List ℕ) → tooShort buffer ≡ true → loadedWords buffer words ≡ asFound 31 buffer
-unfolding loadedWords
-short-buffer-untouched buffer words h = sym (hit (tooShort buffer) (tooShort buffer) _ _ refl h)
+pub refused-load-is-zero-flat : {buffer : List ℕ} {r : ℕ} {after : List ℕ} → WholeLoadFlat buffer r after → (r ≡ 0 → ⊥) → (OneOf r (9 ∷ 31 ∷ []) → ⊥)
+    → imageIn after ≡ replicate imageWords 0
+refused-load-is-zero-flat = found.flat-refused-whole-load-is-zero
 
-pub short-buffer-untouched-by-bytes : (buffer bytes : List ℕ) → tooShort buffer ≡ true → loadedBytes buffer bytes ≡ asFound 31 buffer
-unfolding loadedBytes
-short-buffer-untouched-by-bytes buffer bytes h = sym (hit (tooShort buffer) (tooShort buffer) _ _ refl h)
+-- a write, in whatever state the load stood that had told no answer yet: any refusal but 30, 31 and 32
+pub refused-write-is-zero : {l : Load} {buffer words : List ℕ} {r : Wrote} {after : List ℕ} → Writes l buffer words r after → {n : ℕ} → isTold (l .phase) ≡ false
+    → r .answer ≡ Refused n
+    → (OneOf n (30 ∷ 31 ∷ 32 ∷ []) → ⊥)
+    → imageIn after ≡ replicate imageWords 0
+refused-write-is-zero = found.refused-write-is-zero
 
-pub short-buffer-untouched-by-a-write : (l : Load) (buffer words : List ℕ) → tooShort buffer ≡ true → wrote l buffer words ≡ untouched 31 l buffer
-unfolding wrote
-short-buffer-untouched-by-a-write l buffer words h = sym (hit (tooShort buffer) (tooShort buffer) _ _ refl h)
+pub refused-write-is-zero-flat : {numbers buffer words : List ℕ} {r : ℕ} {after kept : List ℕ} → WritesFlat numbers buffer words r after kept
+    → isTold (loadIn numbers .phase) ≡ false
+    → (r ≡ 0 → ⊥)
+    → (r ≡ 0xFFFFFFFF → ⊥)
+    → (OneOf r (30 ∷ 31 ∷ 32 ∷ []) → ⊥)
+    → imageIn kept ≡ replicate imageWords 0
+refused-write-is-zero-flat = found.flat-refused-write-is-zero
 
--- 9
-pub part-of-a-word-untouched : (buffer bytes : List ℕ) → tooShort buffer ≡ false → not (eqb (length bytes % 4) 0) ≡ true → loadedBytes buffer bytes ≡ asFound 9 buffer
-unfolding loadedBytes
-part-of-a-word-untouched buffer bytes h p =
-    sym (pass (tooShort buffer) (tooShort buffer) _ _ _ refl h (hit (not (eqb (length bytes % 4) 0)) (not (eqb (length bytes % 4) 0)) _ _ refl p))
+-- "9, 30, 31 and 32 leave everything as found": so what was judged before is judged after, and nothing else
+pub write-as-found : {l : Load} {buffer words : List ℕ} {r : Wrote} {after : List ℕ} → Writes l buffer words r after → RefusedWith leaveAsFound (r .answer)
+    → (r .load ≡ l) × (after ≡ buffer)
+write-as-found = found.write-as-found
 
--- 30 and 32 of a write
-pub damaged-load-untouched : (l : Load) (buffer words : List ℕ) → tooShort buffer ≡ false → damaged l (imageIn buffer) ≡ true → wrote l buffer words ≡ untouched 30 l buffer
-unfolding wrote
-damaged-load-untouched l buffer words h d =
-    sym (pass (tooShort buffer) (tooShort buffer) _ _ _ refl h (hit (damaged l (imageIn buffer)) (damaged l (imageIn buffer)) _ _ refl d))
+pub write-as-found-flat : {numbers buffer words : List ℕ} {r : ℕ} {after kept : List ℕ} → WritesFlat numbers buffer words r after kept → OneOf r leaveAsFound
+    → (after ≡ numbers) × (kept ≡ buffer)
+write-as-found-flat = found.flat-write-as-found
 
-pub empty-or-long-write-untouched : (l : Load) (buffer words : List ℕ) → tooShort buffer ≡ false → damaged l (imageIn buffer) ≡ false → outside (length words) ≡ true
-    → wrote l buffer words ≡ untouched 32 l buffer
-unfolding wrote
-empty-or-long-write-untouched l buffer words h d o =
-    sym
-    (pass (tooShort buffer) (tooShort buffer) _ _ _ refl h
-    (pass (damaged l (imageIn buffer)) (damaged l (imageIn buffer)) _ _ _ refl d (hit (outside (length words)) (outside (length words)) _ _ refl o)))
+pub load-as-found : {buffer : List ℕ} {answer : Answer} {after : List ℕ} → WholeLoad buffer answer after → RefusedWith leaveAsFound answer → after ≡ buffer
+load-as-found = found.whole-load-as-found
 
--- "a refused frame changes nothing"
-pub refused-frame-changes-nothing : (buffer g : List ℕ) (port time : ℕ) (frame : List ℕ) → (refusalOf buffer g port time frame ≡ 0 → ⊥)
-    → judgeOf buffer g port time frame ≡ judged (Refused (refusalOf buffer g port time frame)) g
-refused-frame-changes-nothing = refused-unchanged
+pub load-as-found-flat : {buffer : List ℕ} {r : ℕ} {after : List ℕ} → WholeLoadFlat buffer r after → OneOf r leaveAsFound → after ≡ buffer
+load-as-found-flat = found.flat-whole-load-as-found
 
-pub refused-release-changes-nothing : (buffer g : List ℕ) (partition : ℕ) → (releaseRefusal buffer g partition ≡ 0 → ⊥) → released buffer g partition ≡ g
-unfolding released
-refused-release-changes-nothing buffer g partition h = ap (λ (t : Bool). cond t (givenTo g partition) g) (ne-eqb (releaseRefusal buffer g partition) 0 h)
+-- "Words after an answer are ignored; the answer is repeated"
+pub told-answer-is-repeated : {l : Load} {buffer words : List ℕ} {r : Wrote} {after : List ℕ} → Writes l buffer words r after → {n : ℕ} → l .phase ≡ Told n
+    → tooShort buffer ≡ false
+    → damaged l (imageIn buffer) ≡ false
+    → outside (length words) ≡ false
+    → r .answer ≡ numbered n
+told-answer-is-repeated = found.told-answer-is-repeated
 
--- so a refused call answers its number and leaves every number of the lent row as it was, here and at the entries for C and Rust
-module _ (buffer g after : List ℕ) where
-  module _ (port time : ℕ) (frame : List ℕ) (refuses : refusalOf buffer g port time frame ≡ 0 → ⊥) where
-    as-it-was : judgeOf buffer g port time frame ≡ judged (Refused (refusalOf buffer g port time frame)) g
-    as-it-was = refused-frame-changes-nothing buffer g port time frame refuses
+-- "and nothing is written"
+pub told-load-is-not-written : {l : Load} {buffer words : List ℕ} {r : Wrote} {after : List ℕ} → Writes l buffer words r after → isTold (l .phase) ≡ true
+    → (r .load ≡ l) × (after ≡ buffer)
+told-load-is-not-written = found.told-load-is-not-written
 
-    pub refused-frame-keeps-the-row : (r : Verdict) → Judges buffer g port time frame r after → (r ≡ Refused (refusalOf buffer g port time frame)) × (after ≡ g)
-    refused-frame-keeps-the-row r p = (p .verdict ∙ ap (λ (j : Judged). j .verdict) as-it-was, p .row ∙ ap (λ (j : Judged). j .row) as-it-was)
+-- 30: "a whole load or a first write never gives it"
+pub whole-load-never-30 : {buffer : List ℕ} {answer : Answer} {after : List ℕ} → WholeLoad buffer answer after → answer ≡ Refused 30 → ⊥
+whole-load-never-30 = found.whole-load-never-30
 
-    pub refused-frame-keeps-the-lent-ledger : (r : FlatVerdict) → JudgesFlat buffer g port time frame r after
-        → (r ≡ flatVerdict (Refused (refusalOf buffer g port time frame))) × (after ≡ g)
-    refused-frame-keeps-the-lent-ledger r p =
-        (p .verdict ∙ ap (λ (j : Judged). flatVerdict (j .verdict)) as-it-was, p .row ∙ ap (λ (j : Judged). j .row) as-it-was)
+pub first-write-never-30 : {l : Load} {buffer words : List ℕ} {r : Wrote} {after : List ℕ} → Writes l buffer words r after → begun (l .phase) ≡ false
+    → r .answer ≡ Refused 30
+    → ⊥
+first-write-never-30 = found.first-write-never-30
 
-  module _ (partition : ℕ) (refuses : releaseRefusal buffer g partition ≡ 0 → ⊥) where
-    pub refused-release-keeps-the-row : (r : Answer) → Released buffer g partition r after → (r ≡ answer.Refused (releaseRefusal buffer g partition)) × (after ≡ g)
-    refused-release-keeps-the-row r p = (
-      p .answer
-          ∙ ap (λ (t : Bool). cond t answer.Done (answer.Refused (releaseRefusal buffer g partition))) (ne-eqb (releaseRefusal buffer g partition) 0 refuses),
-      p .row ∙ refused-release-changes-nothing buffer g partition refuses,
-    )
+-- for C and Rust: numbers in the first phase, whatever the others are
+pub first-write-never-30-flat : {numbers buffer words : List ℕ} {r : ℕ} {after kept : List ℕ} → WritesFlat numbers buffer words r after kept
+    → low (getD numbers 0 0) ≡ 0
+    → r ≡ 30
+    → ⊥
+first-write-never-30-flat = found.flat-first-write-never-30
 
-    pub refused-release-keeps-the-lent-ledger : (r : ℕ) → ReleasesFlat buffer g partition r after → (r ≡ releaseRefusal buffer g partition) × (after ≡ g)
-    refused-release-keeps-the-lent-ledger r p = (p .number, p .row ∙ refused-release-changes-nothing buffer g partition refuses)
+-- ---- "a lent buffer, whose rest is never written": its length too stays, for all load states, buffers and words
 
-unloaded-30 : (buffer : List ℕ) → tooShort buffer ≡ false → notLoaded (imageIn buffer) ≡ true → unloaded buffer ≡ 30
-unfolding unloaded
-unloaded-30 buffer h n =
-    sym (pass (tooShort buffer) (tooShort buffer) 30 31 _ refl h (hit (notLoaded (imageIn buffer)) (notLoaded (imageIn buffer)) 30 _ refl n))
+pub rest-kept-by-a-write : {l : Load} {buffer words : List ℕ} {r : Wrote} {after : List ℕ} → Writes l buffer words r after → RestKept buffer after
+rest-kept-by-a-write = rest.write-keeps-the-rest
 
-stands-30 : (buffer g : List ℕ) → tooShort buffer ≡ false → notLoaded (imageIn buffer) ≡ true → standing buffer g ≡ 30
-unfolding standing
-stands-30 buffer g h n = rw (unloaded-30 buffer h n) refl
+pub rest-kept-by-a-write-flat : {numbers buffer words : List ℕ} {r : ℕ} {after kept : List ℕ} → WritesFlat numbers buffer words r after kept → RestKept buffer kept
+rest-kept-by-a-write-flat = rest.flat-write-keeps-the-rest
 
--- "An image that isn't loaded is never judged": without the mark, with a count above its limit, or with counts that rule 20 refuses, 30
-pub not-loaded-not-judged : (buffer g : List ℕ) (port time : ℕ) (frame : List ℕ) → tooShort buffer ≡ false → notLoaded (imageIn buffer) ≡ true
-    → refusalOf buffer g port time frame ≡ 30
-unfolding refusalOf
-not-loaded-not-judged buffer g port time frame h n = rw (stands-30 buffer g h n) refl
+pub rest-kept-by-a-load : {buffer : List ℕ} {answer : Answer} {after : List ℕ} → WholeLoad buffer answer after → RestKept buffer after
+rest-kept-by-a-load = rest.whole-load-keeps-the-rest
 
-pub not-loaded-not-released : (buffer g : List ℕ) (partition : ℕ) → tooShort buffer ≡ false → notLoaded (imageIn buffer) ≡ true
-    → releaseRefusal buffer g partition ≡ 30
-unfolding releaseRefusal
-not-loaded-not-released buffer g partition h n = rw (stands-30 buffer g h n) refl
+pub rest-kept-by-a-load-flat : {buffer : List ℕ} {r : ℕ} {after : List ℕ} → WholeLoadFlat buffer r after → RestKept buffer after
+rest-kept-by-a-load-flat = rest.flat-whole-load-keeps-the-rest
 
--- and its tiles say so
-pub not-loaded-tiles : (buffer g : List ℕ) (port : ℕ) → port < 5 → tooShort buffer ≡ false → notLoaded (imageIn buffer) ≡ true → askedOf buffer g port ≡ Shown NotLoaded
-unfolding askedOf
-not-loaded-tiles buffer g port p h n =
-    sym
-    (pass (tooShort buffer) (tooShort buffer) _ _ _ refl h
-    (pass (ltb 4 port) (ltb 4 port) _ _ _ refl (le-ltb 4 port (le-of-suc-le-suc p)) (hit (notLoaded (imageIn buffer)) (notLoaded (imageIn buffer)) _ _ refl n)))
+-- ---- "a refused frame changes nothing"
+
+pub refused-frame-keeps-the-row : (buffer g : List ℕ) (port time : ℕ) (frame : List ℕ) (n : ℕ) (r : Verdict) (after : List ℕ)
+    → Judges buffer g port time frame r after
+    → r ≡ verdict.Refused n
+    → after ≡ g
+refused-frame-keeps-the-row = refused.refused-frame-keeps-the-row
+
+pub refused-frame-keeps-the-lent-ledger : (buffer g : List ℕ) (port time : ℕ) (frame : List ℕ) (r : FlatVerdict) (after : List ℕ)
+    → JudgesFlat buffer g port time frame r after
+    → r .kind ≡ 0
+    → after ≡ g
+refused-frame-keeps-the-lent-ledger = refused.refused-frame-keeps-the-lent-ledger
+
+pub refused-release-keeps-the-row : (buffer g : List ℕ) (partition n : ℕ) (r : ledger.Answer) (after : List ℕ) → Released buffer g partition r after
+    → r ≡ answered.Refused n
+    → after ≡ g
+refused-release-keeps-the-row = refused.refused-release-keeps-the-row
+
+pub refused-release-keeps-the-lent-ledger : (buffer g : List ℕ) (partition r : ℕ) (after : List ℕ) → ReleasesFlat buffer g partition r after → (r ≡ 0 → ⊥)
+    → after ≡ g
+refused-release-keeps-the-lent-ledger = refused.refused-release-keeps-the-lent-ledger
 
 -- a refused fresh ledger is none, never what stood in the row, and 39 refuses it under every image
-module _ (buffer after : List ℕ) (refuses : unloaded buffer ≡ 0 → ⊥) where
-  none : freshened buffer ≡ noLedger
-  none = ap (λ (t : Bool). cond t (freshOf (imageIn buffer)) noLedger) (ne-eqb (unloaded buffer) 0 refuses)
+pub refused-ledger-is-none : (buffer : List ℕ) (n : ℕ) (r : ledger.Answer) (after : List ℕ) → Freshened buffer r after → r ≡ answered.Refused n
+    → (after ≡ noLedger) × ((image : List ℕ) → outOfRange image after ≡ true)
+refused-ledger-is-none = refused.refused-ledger-is-none
 
-  pub refused-ledger-is-none : (r : Answer) → Freshened buffer r after → (after ≡ noLedger) × ((image : List ℕ) → outOfRange image after ≡ true)
-  refused-ledger-is-none r p = let e = p .row ∙ none in (e, λ image. ap (outOfRange image) e ∙ refused-everywhere image)
+pub refused-lent-ledger-is-none : (buffer : List ℕ) (r : ℕ) (after : List ℕ) → FreshensFlat buffer r after → (r ≡ 0 → ⊥)
+    → (after ≡ noLedger) × ((image : List ℕ) → outOfRange image after ≡ true)
+refused-lent-ledger-is-none = refused.refused-lent-ledger-is-none
 
-  pub refused-lent-ledger-is-none : (r : ℕ) → FreshensFlat buffer r after → (after ≡ noLedger) × ((image : List ℕ) → outOfRange image after ≡ true)
-  refused-lent-ledger-is-none r p = let e = p .row ∙ none in (e, λ image. ap (outOfRange image) e ∙ refused-everywhere image)
+-- ---- "An image that isn't loaded is never judged": the night that was billed for nothing
+
+-- a zero image is not loaded
+pub zero-image-not-loaded : notLoaded (replicate imageWords 0) ≡ true
+zero-image-not-loaded = marked.zero-image-not-loaded
+
+-- whatever a whole load answered but loaded, 9 and 31: a fresh ledger, every frame and every release is told 30, and tiles 0 to 4 are not-loaded
+pub not-loaded-not-judged : {buffer : List ℕ} {answer : Answer} {after : List ℕ} → WholeLoad buffer answer after → (answer ≡ Loaded → ⊥)
+    → (RefusedWith (9 ∷ 31 ∷ []) answer → ⊥)
+    → NeverJudged after
+not-loaded-not-judged p z h = never-judged _ (marked.whole-load-unloaded p z h)
+
+pub not-loaded-not-judged-flat : {buffer : List ℕ} {r : ℕ} {after : List ℕ} → WholeLoadFlat buffer r after → (r ≡ 0 → ⊥) → (OneOf r (9 ∷ 31 ∷ []) → ⊥) → NeverJudged after
+not-loaded-not-judged-flat p z h = never-judged _ (marked.flat-whole-load-unloaded p z h)
+
+-- whatever the last of a chain of permitted writes from a fresh load answered, "more" among it, but loaded, 30, 31 and 32: the same
+pub unfinished-not-judged : {buffer c : List ℕ} {cs : List (List ℕ)} {v : Written} → WriteChain (unwritten buffer) (c ∷ cs) v → (v .answer ≡ Loaded → ⊥)
+    → (RefusedWith (30 ∷ 31 ∷ 32 ∷ []) (v .answer) → ⊥)
+    → NeverJudged (v .buffer)
+unfinished-not-judged p z h = never-judged _ (marked.chain-unloaded p z h)
+
+pub unfinished-not-judged-flat : {numbers buffer c : List ℕ} {cs : List (List ℕ)} {x : FlatWritten} → FreshLoad numbers → AllWords (c ∷ cs)
+    → WriteChainFlat (unwrittenFlat numbers buffer) (c ∷ cs) x
+    → (x .answer ≡ 0 → ⊥)
+    → (OneOf (x .answer) (30 ∷ 31 ∷ 32 ∷ []) → ⊥)
+    → NeverJudged (x .buffer)
+unfinished-not-judged-flat f w p z h = never-judged _ (marked.flat-chain-unloaded f w p z h)
+
+-- answered loaded, no call under that image is ever told 30
+pub loaded-never-30 : {buffer : List ℕ} {answer : Answer} {after : List ℕ} → WholeLoad buffer answer after → answer ≡ Loaded → NeverThirty after
+loaded-never-30 p e = never-thirty _ (marked.whole-load-loaded p e)
+
+pub loaded-never-30-flat : {buffer : List ℕ} {r : ℕ} {after : List ℕ} → WholeLoadFlat buffer r after → r ≡ 0 → NeverThirty after
+loaded-never-30-flat p e = never-thirty _ (marked.flat-whole-load-loaded p e)
+
+pub finished-never-30 : {buffer c : List ℕ} {cs : List (List ℕ)} {v : Written} → WriteChain (unwritten buffer) (c ∷ cs) v → v .answer ≡ Loaded → NeverThirty (v .buffer)
+finished-never-30 p e = never-thirty _ (marked.chain-loaded p e)
+
+pub finished-never-30-flat : {numbers buffer c : List ℕ} {cs : List (List ℕ)} {x : FlatWritten} → FreshLoad numbers → AllWords (c ∷ cs)
+    → WriteChainFlat (unwrittenFlat numbers buffer) (c ∷ cs) x
+    → x .answer ≡ 0
+    → NeverThirty (x .buffer)
+finished-never-30-flat f w p e = never-thirty _ (marked.flat-chain-loaded f w p e)

@@ -1,136 +1,148 @@
--- Demand 2, of tiles: over any history from a fresh ledger a port's counts are the counts over that history's verdicts, and a port with no frames shows no share.
-use mathlib.Core.Path.{_≡_, refl, sym, _∙_, ap, subst}
-use mathlib.Core.Logic.{⊎-elim}
-use mathlib.Core.Bool.{Bool, true, false, cond}
-use mathlib.Core.List.{List, [], _∷_}
-use Prim.Native.Nat.{ℕ, _+_, _<_}
-use native.Mathlib.Omega.{arith}
-use lib.Dec.{eqb, lit<}
-use lib.ListN.{length, getD, set}
-use borrow.Author.Tests.{eq-eqb, ne-eqb}
-use Rattle.image.specs.Layout.{imageIn}
-use Rattle.ledger.specs.Row.{frames, drops, octets, dropped, last, start, many, cellCount}
+-- Demand 2. "Its loading answers, tables, verdicts, partitions, meters and tiles are those that source document 001 and document 01 define. A stream is
+-- refused exactly when a rule there is broken, and with the first one broken. A port with no frames shows no share."
+use mathlib.Core.Path.{_≡_}
+use mathlib.Core.Bool.{false}
+use mathlib.Core.List.{List}
+use Prim.Native.Nat.{ℕ, _+_, _*_, _<_, _≤_}
+use lib.ListN.{length, take, drop}
+use Rattle.image.specs.Rows.{sizeOf}
+use Rattle.image.specs.Layout.{imageIn, imageOf, listOf, countOf, entryOf}
+use Rattle.image.specs.declared.tables.Table.{Table}
+use Rattle.fields.specs.Fields.{partSpc}
+use Rattle.stream.specs.declared.Answer.{Answer}
+use Rattle.stream.specs.declared.Answer.the-variants.{Loaded}
+use Rattle.stream.specs.Paper.{passed, framed, loaded, numbered}
+use Rattle.stream.specs.Leaves.{EndsWords, EndsBytes}
+use Rattle.ledger.specs.declared.Answer as ledger
+use Rattle.ledger.specs.declared.Answer.the-variants.{Done}
+use Rattle.ledger.specs.Row.{units, credit, many, cellCount, cell}
 use Rattle.ledger.specs.Range.{outOfRange}
-use Rattle.ledger.specs.Laws.{cells, other-place}
-use Rattle.row.specs.Fresh.{freshOf}
-use Rattle.row.specs.Release.{releaseRefusal, givenTo, released, releasable}
-use Rattle.spend.specs.declared.Counts.{Counts}
-use Rattle.spend.specs.Spend.{countedOf}
-use Rattle.frame.specs.Bytes.{octetsOf}
-use Rattle.plan.specs.declared.Course.{Course}
-use Rattle.plan.specs.Laws.{Sane}
+use Rattle.row.specs.Fresh.{freshOf, Freshened}
+use Rattle.row.specs.Release.{Released}
 use Rattle.settle.specs.declared.Verdict.{Verdict}
-use Rattle.settle.specs.declared.Verdict.the-variants.{Refused, Drop, Sent}
-use Rattle.settle.specs.Settle.{Judged}
-use Rattle.settle.specs.Note.{countsAt, noted}
-use Rattle.settle.specs.Countable.{counts-kept}
-use Rattle.judge.specs.Judge.{judgeOf}
-use Rattle.judge.specs.Laws.{Admitted, runs}
-use Rattle.judge.specs.Cases.{rowAfter, by-cases}
-use Rattle.tile.specs.declared.shares.Tile.the-variants.{NoFrames}
-use Rattle.tile.specs.Tiles.{tileOf}
-use Rattle.tile.specs.Shares.{no-share}
-use Rattle.kept.specs.Lists.{same-or-not}
-use Rattle.kept.specs.Fresh.{fresh-zero}
-use Rattle.kept.specs.Kept.{Kept, fresh-kept}
-use Rattle.kept.specs.History.{Event, frame, release, step, after, step-kept, never-39}
+use Rattle.judge.specs.Judge.{Judges}
+use Rattle.tile.specs.declared.shares.Asked.{Asked}
+use Rattle.kept.specs.History.{Event, after}
+use Rattle.kept.specs.HistoryLaws.{never-39}
+use Rattle.config_k.specs.Stream.{K}
+use Rattle.config_k.specs.Tables.{kTables}
+use Rattle.config_k.specs.Loads.{k-loaded}
+use Rattle.flat_answers.specs.declared.FlatVerdict.{FlatVerdict}
+use Rattle.flat_answers.specs.declared.FlatTile.{FlatTile}
+use Rattle.flat_answers.specs.Answers.{flatVerdict}
+use Rattle.flat_loads.specs.Calls.{LoadsWords, LoadsBytes}
+use Rattle.flat_frames.specs.Frames.{FreshensFlat, JudgesFlat, ReleasesFlat}
+use Rattle.exactly.specs.First.{First, Exactly}
+use Rattle.exactly.specs.Load.{WordsPage, BytesPage}
+use Rattle.exactly.specs.Steps.{framePage, verdictBy}
+use Rattle.exactly.specs.LoadProved as load
+use Rattle.exactly.specs.StepsProved as steps
+use Rattle.loads.specs.Given as given
+use Rattle.nights.specs.Nights.{Said, RunOf, RunFlat, NightOf, NightFlat}
+use Rattle.nights.specs.Sums.{kindOf, kindFlat, sumsOf, Shows, ShowsFlat}
+use Rattle.nights.specs.SumsProved as sums
+use Rattle.nights.specs.Units.{doneOf, doneFlat, taken, returned}
+use Rattle.nights.specs.UnitsProved as parts
+use Rattle.nights.specs.Meters.{fromNine, fromNineFlat, Unmoved, Metered}
+use Rattle.nights.specs.MetersProved as meters
 
--- what a verdict adds to its port's counts: a refused frame nothing, a dropped one a frame and a drop, a sent one a frame
-abbrev pub counting : Verdict → ℕ → Counts → Counts
-counting (Refused n) l c = c
-counting (Drop n) l c = countedOf c l true
-counting (Sent s) l c = countedOf c l false
+-- ---- "A stream is refused exactly when a rule there is broken, and with the first one broken": the load's page, framing and rules as one
 
--- the counts of port p over a history, from these counts on: those of its own frames' verdicts
-abbrev pub tally : List ℕ → ℕ → List ℕ → Counts → List Event → Counts
-tally buffer p g c [] = c
-tally buffer p g c (frame port time bytes ∷ es) =
-    tally buffer p (step buffer g (frame port time bytes)) (cond (eqb p port) (counting (judgeOf buffer g port time bytes .verdict) (octetsOf bytes) c) c) es
-tally buffer p g c (release partition ∷ es) = tally buffer p (step buffer g (release partition)) c es
+pub words-told-the-first : (buffer words : List ℕ) (r : Answer) (after : List ℕ) → EndsWords buffer words r after → Exactly Answer (WordsPage buffer words) numbered r
+words-told-the-first = load.words-told-the-first
 
--- ---- what a note leaves: the port's own counts are set, the others' kept
-noted-counts : (g : List ℕ) (port time l : ℕ) (drop : Bool) (p : ℕ) → length g ≡ cellCount → port < many frames → p < many frames
-    → countsAt (noted g port time l drop) p ≡ cond (eqb p port) (countedOf (countsAt g p) l drop) (countsAt g p)
-unfolding noted
-noted-counts g port time l drop p all inside h = ⊎-elim (λ e. subst Noted e own) (λ ne. other ne) (same-or-not port p)
-  where
-    only : 0 < many last
-    only = lit< tt
+pub bytes-told-the-first : (buffer bytes : List ℕ) (r : Answer) (after : List ℕ) → EndsBytes buffer bytes r after → Exactly Answer (BytesPage buffer bytes) numbered r
+bytes-told-the-first = load.bytes-told-the-first
 
-    Noted : ℕ → Type 0
-    Noted q = countsAt (noted g port time l drop) q ≡ cond (eqb q port) (countedOf (countsAt g q) l drop) (countsAt g q)
+pub words-told-the-first-flat : (buffer words : List ℕ) (r : ℕ) (after : List ℕ) → LoadsWords buffer words r after → Exactly ℕ (WordsPage buffer words) (λ n. n) r
+words-told-the-first-flat = load.words-told-the-first-flat
 
-    own : Noted port
-    own = rw (eq-eqb port port refl) (simp (cells, all, only))
+pub bytes-told-the-first-flat : (buffer bytes : List ℕ) (r : ℕ) (after : List ℕ) → LoadsBytes buffer bytes r after → Exactly ℕ (BytesPage buffer bytes) (λ n. n) r
+bytes-told-the-first-flat = load.bytes-told-the-first-flat
 
-    other : (port ≡ p → ⊥) → Noted p
-    other ne =
-        let there : (f : List ℕ) (a v : ℕ) → getD (set f (a + port) v) (a + p) 0 ≡ getD f (a + p) 0 = λ f a v. other-place f a port p v ne in
-        rw (ne-eqb p port (λ q. ne (sym q))) (simp (cells, there, only))
+-- ---- its tables: a loaded image gives back each table's entries, as many as its stream brought
 
-judge-counts : (buffer g : List ℕ) (port time p : ℕ) (bytes : List ℕ) → length g ≡ cellCount → p < many frames
-    → countsAt (judgeOf buffer g port time bytes .row) p
-    ≡ cond (eqb p port) (counting (judgeOf buffer g port time bytes .verdict) (octetsOf bytes) (countsAt g p)) (countsAt g p)
-judge-counts buffer g port time p bytes all h =
-    by-cases buffer g port time bytes (λ (j : Judged). countsAt (j .row) p ≡ cond (eqb p port) (counting (j .verdict) l (countsAt g p)) (countsAt g p))
-    (λ z. same (eqb p port))
-    (λ a n e. noted-counts g port time l true p all (a .inside) h)
-    (λ a w e f z. spent a w f true)
-    (λ a w e f z. spent a w f false)
-  where
-    l : ℕ
-    l = octetsOf bytes
+pub gives-back-the-count : {buffer words after : List ℕ} {answer : Answer} {lists : List (List ℕ)} → EndsWords buffer words answer after → answer ≡ Loaded
+    → framed words ≡ passed lists
+    → (t : Table)
+    → countOf (imageIn after) t * sizeOf t ≡ length (listOf lists t)
+gives-back-the-count = given.gives-back-the-count
 
-    same : (t : Bool) → countsAt g p ≡ cond t (countsAt g p) (countsAt g p)
-    same true = refl
-    same false = refl
+pub gives-back-each-entry : {buffer words after : List ℕ} {answer : Answer} {lists : List (List ℕ)} → EndsWords buffer words answer after → answer ≡ Loaded
+    → framed words ≡ passed lists
+    → (t : Table) (i : ℕ)
+    → i * sizeOf t + sizeOf t ≤ length (listOf lists t)
+    → entryOf (imageIn after) t i ≡ take (sizeOf t) (drop (i * sizeOf t) (listOf lists t))
+gives-back-each-entry = given.gives-back-each-entry
 
-    spent : Admitted buffer g port time bytes → (w : Course) → Sane (imageIn buffer) w → (drop : Bool)
-        → countsAt (noted (rowAfter g w time l) port time l drop) p ≡ cond (eqb p port) (countedOf (countsAt g p) l drop) (countsAt g p)
-    spent a w f drop =
-        let r = runs buffer w (a .image) f in
-        noted-counts (rowAfter g w time l) port time l drop p (simp lib.ListN.length-set all) (a .inside) h
-        ∙ ap (λ (c : Counts). cond (eqb p port) (countedOf c l drop) c) (counts-kept g w _ p (r .meter) (r .partition) h)
+-- "demand 2 gives K its answer and tables"
+pub k-gets-0-and-its-tables : loaded K ≡ record { number = 0; image = imageOf kTables }
+k-gets-0-and-its-tables = k-loaded
 
-release-counts : (buffer g : List ℕ) (partition p : ℕ) → p < many frames → countsAt (released buffer g partition) p ≡ countsAt g p
-unfolding released
-release-counts buffer g partition p h = go (eqb (releaseRefusal buffer g partition) 0) refl
-  where
-    go : (t : Bool) → t ≡ eqb (releaseRefusal buffer g partition) 0 → countsAt (cond t (givenTo g partition) g) p ≡ countsAt g p
-    go true e = let inside = releasable buffer g partition (borrow.Author.Tests.eqb-true _ 0 (sym e)) .has .inside in simp cells
-    go false e = refl
+-- ---- its verdicts: a frame's page. "The first drop that applies is the verdict", and before it the first refusal
 
--- ---- over a history
-tallied-from : (buffer : List ℕ) (p : ℕ) (g : List ℕ) (es : List Event) → Kept (imageIn buffer) g → p < many frames
-    → countsAt (after buffer g es) p ≡ tally buffer p g (countsAt g p) es
-tallied-from buffer p g [] k h = refl
-tallied-from buffer p g (frame port time bytes ∷ es) k h =
-    tallied-from buffer p (step buffer g (frame port time bytes)) es (step-kept buffer g (frame port time bytes) k) h
-    ∙ ap (λ (c : Counts). tally buffer p (step buffer g (frame port time bytes)) c es) (judge-counts buffer g port time p bytes (k .all) h)
-tallied-from buffer p g (release partition ∷ es) k h =
-    tallied-from buffer p (step buffer g (release partition)) es (step-kept buffer g (release partition) k) h
-    ∙ ap (λ (c : Counts). tally buffer p (step buffer g (release partition)) c es) (release-counts buffer g partition p h)
+pub first-that-applies : (buffer g : List ℕ) (port time : ℕ) (frame : List ℕ) (r : Verdict) (after : List ℕ) → Judges buffer g port time frame r after
+    → Exactly Verdict (First (framePage buffer g port time frame)) (verdictBy buffer port frame) r
+first-that-applies = steps.first-that-applies
 
--- "Tiles count what was judged": over any history from a fresh ledger, a port's frames, drops, octets and dropped octets are those of its verdicts
-pub tiles-count-what-was-judged : (buffer : List ℕ) (p : ℕ) (es : List Event) → p < many frames
-    → countsAt (after buffer (freshOf (imageIn buffer)) es) p ≡ tally buffer p (freshOf (imageIn buffer)) (countsAt (freshOf (imageIn buffer)) p) es
-tiles-count-what-was-judged buffer p es h = tallied-from buffer p (freshOf (imageIn buffer)) es (fresh-kept (imageIn buffer)) h
+pub first-that-applies-flat : (buffer g : List ℕ) (port time : ℕ) (frame : List ℕ) (r : FlatVerdict) (after : List ℕ) → JudgesFlat buffer g port time frame r after
+    → Exactly FlatVerdict (First (framePage buffer g port time frame)) (λ n. flatVerdict (verdictBy buffer port frame n)) r
+first-that-applies-flat = steps.first-that-applies-flat
 
--- and they start from nothing
-pub tiles-start-from-nothing : (image : List ℕ) (p : ℕ) → p < many frames
-    → _≡_ {A = Counts} (countsAt (freshOf image) p) (record { frames = 0; drops = 0; octets = 0; dropped = 0 })
-tiles-start-from-nothing image p h =
-    λ i.
-    record {
-      frames = fresh-zero image (start frames) p (omega arith) (omega arith) i;
-      drops = fresh-zero image (start drops) p (omega arith) (omega arith) i;
-      octets = fresh-zero image (start octets) p (omega arith) (omega arith) i;
-      dropped = fresh-zero image (start dropped) p (omega arith) (omega arith) i;
-    }
+-- ---- its partitions: over a night the units left and those taken are the configured space and those given back
 
--- "A port with no frames shows no share"
-pub no-frames-no-share : (drops octets dropped : ℕ) → tileOf 0 drops octets dropped ≡ NoFrames
-no-frames-no-share = no-share
+pub units-left-are-the-space-less-those-out : (buffer : List ℕ) (es : List Event) (g : List ℕ) (said : List (Said Verdict ledger.Answer)) (z : List ℕ)
+    → Freshened buffer Done g
+    → RunOf buffer g es said z
+    → (j : ℕ)
+    → j < many units
+    → cell z units j + taken kindOf (imageIn buffer) j es said ≡ partSpc (imageIn buffer) j + returned doneOf j es said
+units-left-are-the-space-less-those-out = parts.units-left-are-the-space-less-those-out
+
+pub units-left-are-the-space-less-those-out-flat : (buffer : List ℕ) (es : List Event) (g : List ℕ) (said : List (Said FlatVerdict ℕ)) (z : List ℕ)
+    → FreshensFlat buffer 0 g
+    → RunFlat buffer g es said z
+    → (j : ℕ)
+    → j < many units
+    → cell z units j + taken kindFlat (imageIn buffer) j es said ≡ partSpc (imageIn buffer) j + returned doneFlat j es said
+units-left-are-the-space-less-those-out-flat = parts.units-left-are-the-space-less-those-out-flat
+
+-- ---- its meters: a call changes only the SHARINDX entry's credit and time, and only from step 9 on
+
+pub only-the-own-meter : (buffer g : List ℕ) (port time : ℕ) (bytes : List ℕ) → length g ≡ cellCount → (r : Verdict) (after : List ℕ)
+    → Judges buffer g port time bytes r after
+    → Metered (imageIn buffer) g port time bytes (fromNine r) after
+only-the-own-meter = meters.only-the-own-meter
+
+pub only-the-own-meter-flat : (buffer g : List ℕ) (port time : ℕ) (bytes : List ℕ) → length g ≡ cellCount → (r : FlatVerdict) (after : List ℕ)
+    → JudgesFlat buffer g port time bytes r after
+    → Metered (imageIn buffer) g port time bytes (fromNineFlat r) after
+only-the-own-meter-flat = meters.only-the-own-meter-flat
+
+pub release-moves-no-meter : (buffer g : List ℕ) (partition j : ℕ) → j < many credit → (r : ledger.Answer) (after : List ℕ) → Released buffer g partition r after
+    → Unmoved g after j
+release-moves-no-meter = meters.release-moves-no-meter
+
+pub release-moves-no-meter-flat : (buffer g : List ℕ) (partition j : ℕ) → j < many credit → (r : ℕ) (after : List ℕ) → ReleasesFlat buffer g partition r after
+    → Unmoved g after j
+release-moves-no-meter-flat = meters.release-moves-no-meter-flat
+
+-- ---- its tiles: over a night a port's tile is that of four plain sums over the verdicts. "A port with no frames shows no share", and no other port;
+-- "with frames and no drops both are +0"; a share is "the exact bits of that division"
+
+pub night-shows-the-sums : (buffer : List ℕ) (es : List Event) (g : List ℕ) (said : List (Said Verdict ledger.Answer)) (z : List ℕ) (tile : ℕ → Asked)
+    → NightOf buffer es Done g said z tile
+    → (p : ℕ)
+    → p < 5
+    → Shows (sumsOf kindOf p es said) (tile p)
+night-shows-the-sums = sums.night-shows-the-sums
+
+pub night-shows-the-sums-flat : (buffer : List ℕ) (es : List Event) (g : List ℕ) (said : List (Said FlatVerdict ℕ)) (z : List ℕ) (tile : ℕ → FlatTile)
+    → NightFlat buffer es 0 g said z tile
+    → (p : ℕ)
+    → p < 5
+    → ShowsFlat (sumsOf kindFlat p es said) (tile p)
+night-shows-the-sums-flat = sums.night-shows-the-sums-flat
 
 -- a ledger that only our calls touched is never refused with 39
 pub own-ledger-never-39 : (buffer : List ℕ) (es : List Event) → outOfRange (imageIn buffer) (after buffer (freshOf (imageIn buffer)) es) ≡ false

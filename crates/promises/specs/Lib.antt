@@ -1,14 +1,7 @@
--- What a reader opens first: the demands of document 00 as theorems over the definitions of the other crates.
+-- What a reader opens first: the three demands of document 00, the proved table of document 01 and each entry's one outcome, as statements over the
+-- entries' own promises. A statement's proof is the theorem that it cites; that stands in the crate below that the import names.
 pub mod Demand1
 pub mod Demand2
-pub mod Refused
-pub mod First
-pub mod Ids
-pub mod Framing
-pub mod Given
-pub mod Units
-pub mod Rules
 pub mod Demand3
-pub mod Chains
 pub mod Table
 pub mod Once

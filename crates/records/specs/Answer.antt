@@ -1,6 +1,8 @@
 -- What the code's answers say, in the paper's numbers.
+use mathlib.Core.Path.{_≡_}
+use mathlib.Core.List.{List}
 use Prim.Native.Nat.{ℕ}
-use Rattle.records.specs.List.{Opens, version, shut, Stands, frame, release, end, refused}
+use Rattle.records.specs.List.{Opens, version, shut, Stands, frame, release, end, refused, standsAt}
 use Rattle.records.specs.declared.Refusal.{Refusal}
 use Rattle.records.specs.declared.Refusal.the-variants.{Size, Mark, Version, Cut, Kind}
 use Rattle.records.specs.declared.Opening.{Opening}
@@ -24,3 +26,7 @@ told (answer.Frame port time start count next) = frame port time start count nex
 told (answer.Release partition next) = release partition next
 told answer.End = end
 told (answer.Refused why) = refused (numberOf why)
+
+-- an answer to what stands at a place of a list: it says what the paper says, by the paper's numbers
+abbrev pub Reads : List ℕ → ℕ → Record → Type 0
+Reads list at r = told r ≡ standsAt list at

@@ -1,8 +1,8 @@
 -- Laws for the loops over bytes.
 use mathlib.Core.Path.{_≡_, refl, sym, _∙_}
-use mathlib.Core.Bool.{Bool, true, false, not, _||_}
+use mathlib.Core.Bool.{true, false, not, _||_}
 use mathlib.Core.List.{List, [], _∷_, _++_}
-use Prim.Native.Nat.{ℕ, suc, _+_, _*_, _^_, _<_, _≤_}
+use Prim.Native.Nat.{ℕ, _+_, _*_, _^_, _<_, _≤_}
 use native.Mathlib.Nat.{add-zero, add-suc, mul-assoc, pow-suc, pow-le-pow-right, lt-of-lt-of-le}
 use native.Mathlib.Numerals.{add-one}
 use native.Mathlib.Omega.{arith}
@@ -13,11 +13,7 @@ use mir.Syntax.{w64}
 use mir.Val.{Fits}
 use borrow.Author.Tests.{eq-eqb, ne-eqb}
 use Rattle.records.specs.Bytes.{big, numberAt, differ}
-
--- ---- does a byte differ: what is left of the question after i of them, and each way that a loop over i goes on or ends
-
-abbrev pub differFrom : List ℕ → ℕ → List ℕ → ℕ → Bool
-differFrom list at wanted i = differ (drop (at + i) list) (drop i wanted)
+use Rattle.records.specs.Differ.{differFrom}
 
 module _ (list : List ℕ) (at : ℕ) (wanted : List ℕ) where
   pub differ-start : differFrom list at wanted 0 ≡ differ (drop at list) wanted

@@ -6,4 +6,5 @@ pub mod Walk
 pub mod Promises
 pub mod Pins
 pub mod Bytes
+pub mod Differ
 pub mod ByteLaws

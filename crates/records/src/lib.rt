@@ -6,8 +6,8 @@ use crate::bytes::number_at;
 ghost use mathlib.Core.Path.{_≡_};
 ghost use Prim.Native.Nat.{_<_};
 ghost use lib.ListN.{length};
-ghost use Rattle.records.specs.List.{openingOf, kindOf, frameAt, releaseAt, standsAt};
-ghost use Rattle.records.specs.Answer.{numberOf, opens, told};
+ghost use Rattle.records.specs.List.{openingOf, kindOf, frameAt, releaseAt};
+ghost use Rattle.records.specs.Answer.{numberOf, opens, told, Reads};
 
 // Where the first record starts: behind the mark and the version.
 pub const FIRST: usize = 5;
@@ -147,7 +147,7 @@ fn release_at(list: &[u8], at: usize) -> Record
 
 // What stands at a place of a list. At its end and past it the list ends; a list that does not open has no record at any place.
 pub fn record_at(list: &[u8], at: usize) -> Record
-    ensures { λ r. ⌜ told r ≡ standsAt (now (list .entry)) at ⌝ }
+    ensures { λ r. ⌜ Reads (now (list .entry)) at r ⌝ }
 {
     let opening = opening_of(list);
     let version = match opening {

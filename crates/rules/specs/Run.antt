@@ -8,12 +8,14 @@ use lib.Dec.{T, eqb}
 use lib.ListN.{length, getD, List·getD-eq-default}
 use borrow.Author.Tests.{eq-eqb}
 use Rattle.laws.specs.Chain.{lt-of}
-use Rattle.laws.specs.Scan.{some-none, some-not, none-at, Misses, misses-above}
-use Rattle.laws.specs.Table.{both, both-left, both-right}
+use Rattle.laws.specs.ScanLaws.{some-none, some-not, none-at, misses-above}
+use Rattle.laws.specs.Scan.{Misses}
+use Rattle.laws.specs.Table.{both}
+use Rattle.laws.specs.TableLaws.{both-left, both-right}
 use Rattle.image.specs.Layout.{countOf}
-use Rattle.image.specs.Sound.{complete}
+use Rattle.image.specs.SoundLaws.{complete}
 use Rattle.image.specs.declared.tables.Table.the-variants.{MacConfiguration, ForwardingParameters}
-use Rattle.broken.specs.Passes.{again-twice}
+use Rattle.broken.specs.PassesLaws.{again-twice}
 use Rattle.rules.specs.Rules.{Rule, rules, firstOf, ruled, ruleCount, blank, ruleAt, said, brokenBefore}
 
 -- ---- the first one broken, of any list of rules

@@ -1,8 +1,8 @@
--- What carrying out a plan asks, and that the code's steps come to it.
+-- That the code's steps come to what a plan carried out is.
 use mathlib.Core.Path.{_≡_, refl, sym, _∙_, ap, subst}
 use mathlib.Core.List.{List}
-use Prim.Native.Nat.{ℕ, _<_}
-use Rattle.ledger.specs.Row.{units, credit, many}
+use Prim.Native.Nat.{ℕ}
+use Rattle.ledger.specs.Row.{units, credit}
 use Rattle.spend.specs.declared.Spent.{Spent}
 use Rattle.plan.specs.declared.Course.{Course}
 use Rattle.plan.specs.declared.Planned.{Planned}
@@ -12,17 +12,6 @@ use Rattle.settle.specs.declared.Verdict.the-variants.{Drop}
 use Rattle.settle.specs.declared.Held.{Held}
 use Rattle.settle.specs.declared.Settled.{Settled}
 use Rattle.settle.specs.Settle.{spentWith, verdictOf, settledBy, settledOf, heldAt, stored, Carries}
-
--- what carrying out a course asks: its cells are there, and its numbers small enough
-pub record Runs (w : Course) : Type 0 where
-  pub meter : w .meter < many credit
-  pub smax : w .smax < 65536
-  pub rate : w .rate < 65536
-  pub partition : w .partition < many units
-
-abbrev pub RunsAll : Planned → Type 0
-RunsAll (Dropped n) = Unit {0}
-RunsAll (Goes w) = Runs w
 
 -- ---- a course on the row
 

@@ -14,7 +14,7 @@ ghost use mathlib.Core.Path.{_≡_};
 ghost use Prim.Native.Nat.{_<_};
 ghost use Rattle.plan.specs.declared.Planned.the-variants.{Goes};
 ghost use Rattle.settle.specs.Settle.{verdictOf, settledOf, Carries};
-ghost use Rattle.settle.specs.Laws.{Runs, RunsAll};
+ghost use Rattle.settle.specs.Runs.{Runs, RunsAll};
 
 pub enum Verdict {
     Refused(u32),

@@ -1,7 +1,7 @@
 -- How a meter grows without its product being made, and what the tests of a spending come to.
-use mathlib.Core.Path.{_≡_, refl, sym, _∙_, ap, subst}
+use mathlib.Core.Path.{_≡_, sym, _∙_, ap, subst}
 use mathlib.Core.Bool.{Bool, true, false, cond}
-use Prim.Native.Nat.{ℕ, zero, _+_, _-_, _*_, _/_, _<_, _≤_, min}
+use Prim.Native.Nat.{ℕ, _+_, _-_, _*_, _/_, _<_, _≤_, min}
 use native.Mathlib.Nat.{min-eq-left, min-eq-right, le-of-lt, add-zero, mul-zero, pos-of-ne-zero, le-div-iff-mul-le, div-lt-iff-lt-mul, le-refl}
 use native.Mathlib.Omega.{arith}
 use lib.Dec.{ltb}
@@ -10,6 +10,7 @@ use Rattle.spend.specs.declared.Counts.{Counts}
 use Rattle.spend.specs.declared.Spent.{Spent}
 use Rattle.spend.specs.Meter.{cost}
 use Rattle.spend.specs.Spend.{spent, paidOf, countedOf}
+use Rattle.spend.specs.Counting.{counts}
 
 module _ (full old elapsed gain : ℕ) where
   -- nothing is gained
@@ -44,9 +45,6 @@ pub enough : (r k now units octets ports : ℕ) (s : Spent) → r ≡ k → cost
 enough r k now units octets ports s e h p =
     subst (λ (x : ℕ). s ≡ cond (ltb x (cost octets)) (spent 9 x now units) (paidOf (x - cost octets) now units octets ports)) e
     (pass-lt r (cost octets) s (spent 9 r now units) (paidOf (r - cost octets) now units octets ports) h p)
-
-abbrev pub counts : ℕ → ℕ → ℕ → ℕ → Counts
-counts f d o x = record { frames = f; drops = d; octets = o; dropped = x }
 
 -- a frame that is dropped, and one that is not, by a flag that was tested
 pub is-dropped : (n : Counts) (octets : ℕ) (t : Bool) → t ≡ true

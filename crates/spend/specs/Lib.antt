@@ -2,4 +2,5 @@
 pub mod Meter
 pub mod Spend
 pub mod Proved
+pub mod Counting
 pub mod Laws

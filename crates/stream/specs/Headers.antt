@@ -13,11 +13,7 @@ use Rattle.image.specs.declared.tables.Block.the-variants.{Carried, NotCarried,
 use Rattle.stream.specs.declared.Header.{Header}
 use Rattle.stream.specs.declared.Header.the-variants.{Wrong, Right}
 use Rattle.stream.specs.Header.{headerOf}
-
--- a block of n words for a table that had so many entries: whole entries, and the table has room for them
-pub record Passes (t : Table) (n had : ℕ) : Type 0 where
-  pub whole : n % sizeOf t ≡ 0
-  pub fits : had + n / sizeOf t ≤ mostOf t
+use Rattle.stream.specs.Passes.{Passes, Named}
 
 -- the table of a header, where it has one
 tableIn : Table → Header → Table
@@ -30,11 +26,6 @@ right-is t u e = ap (tableIn t) e
 
 not-right : (n : ℕ) (t : Table) → Wrong n ≡ Right t → ⊥
 not-right n t e = let z : _≡_ {A = ℕ} 0 1 = cc in omega arith
-
--- a header is its table's exactly where its ID names the table and the block passes
-pub record Named (b : Block) (n : ℕ) (had : Table → ℕ) (t : Table) : Type 0 where
-  pub named : b ≡ Carried t
-  pub passes : Passes t n (had t)
 
 pub right : (b : Block) (n : ℕ) (had : Table → ℕ) (t : Table) → headerOf b n had ≡ Right t → Named b n had t
 right Unknown n had t e = absurd (not-right 3 t e)

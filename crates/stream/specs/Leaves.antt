@@ -4,7 +4,7 @@ use mathlib.Core.List.{List}
 use Prim.Native.Nat.{ℕ}
 use Rattle.stream.specs.Answers.{saidOf}
 use Rattle.stream.specs.Machine.{Machine, wrote}
-use Rattle.stream.specs.Paper.{Whole}
+use Rattle.stream.specs.Paper.{Whole, loadedWords, loadedBytes}
 use Rattle.stream.specs.declared.Answer.{Answer}
 use Rattle.stream.specs.declared.Load.{Load}
 use Rattle.stream.specs.declared.states.Wrote.{Wrote}
@@ -26,3 +26,10 @@ pub record Ends (w : Whole) (answer : Answer) (after : List ℕ) : Type 0 where
   pub told : answer ≡ w .answer
   pub said : saidOf answer ≡ saidOf (w .answer)
   pub kept : after ≡ w .buffer
+
+-- a whole load of words, and one of bytes
+abbrev pub EndsWords : List ℕ → List ℕ → Answer → List ℕ → Type 0
+EndsWords buffer words = Ends (loadedWords buffer words)
+
+abbrev pub EndsBytes : List ℕ → List ℕ → Answer → List ℕ → Type 0
+EndsBytes buffer bytes = Ends (loadedBytes buffer bytes)

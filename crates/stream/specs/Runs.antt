@@ -11,7 +11,8 @@ use borrow.Author.Tests.{ne-eqb}
 use Rattle.crc.specs.Crc.{wordIn, wordsIn}
 use Rattle.image.specs.Rows.{sizeOf, startOf}
 use Rattle.image.specs.RowLaws.{count-inside}
-use Rattle.image.specs.Layout.{entryWords, countAt, getD-in}
+use Rattle.image.specs.Layout.{entryWords, countAt}
+use Rattle.image.specs.LayoutLaws.{getD-in}
 use Rattle.image.specs.declared.tables.Table.{Table}
 use Rattle.stream.specs.Machine.{Machine, at, filling, stepIn, step, run, hadIn, placeIn}
 use Rattle.stream.specs.declared.Phase.{Phase}

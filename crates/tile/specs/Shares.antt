@@ -14,7 +14,7 @@ use lib.Ieee.Order.{round-mono}
 use lib.Ieee.Scale.{round-same, finite}
 use lib.Ieee.Positive.{positive, positive-finite, between}
 use borrow.Author.Tests.{ne-eqb}
-use Rattle.ledger.specs.Laws.{Counted}
+use Rattle.ledger.specs.Stands.{Counted}
 use Rattle.tile.specs.declared.shares.Tile.the-variants.{NoFrames, Shares}
 use Rattle.tile.specs.Tiles.{shareOf, tileOf, bitsOf}
 

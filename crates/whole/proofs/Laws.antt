@@ -11,8 +11,10 @@ use Rattle.laws.specs.Chain.{hit, pass, hit-ne, pass-ne}
 use Rattle.image.specs.Loaded.{tooShort}
 use Rattle.stream.specs.Machine.{Machine, at, run, fresh}
 use Rattle.stream.specs.Paper.{Whole, asFound, loadedWords, wordsOf, loadedBytes}
-use Rattle.stream.specs.Bytes.{wordAt, words-from, words-none, words-split}
-use Rattle.stream.specs.Ends.{settledIn, settled, whole}
+use Rattle.stream.specs.Bytes.{wordAt}
+use Rattle.stream.specs.BytesLaws.{words-from, words-none, words-split}
+use Rattle.stream.specs.Ends.{settledIn, settled}
+use Rattle.stream.specs.EndsLaws.{whole}
 use Rattle.stream.specs.declared.Answer.{Answer}
 use Rattle.stream.specs.declared.Phase.{Phase}
 use Rattle.stream.specs.declared.Load.{Load}

@@ -13,9 +13,9 @@ ghost use Rattle.image.specs.Layout.{imageWords, cleared};
 ghost use Rattle.stream.specs.Ends.{cutShort, settled};
 ghost use Rattle.stream.specs.Fine.{Roomy, Fine};
 ghost use Rattle.stream.specs.Machine.{at, fresh, run};
-ghost use Rattle.stream.specs.Paper.{loadedWords, wordsOf, loadedBytes};
+ghost use Rattle.stream.specs.Paper.{wordsOf};
 ghost use Rattle.stream.specs.declared.Phase.the-variants.{Data};
-ghost use Rattle.stream.specs.Leaves.{Leaves, Ends};
+ghost use Rattle.stream.specs.Leaves.{Leaves, Ends, EndsWords, EndsBytes};
 ghost use Rattle.quick.specs.Takes.{Takes};
 
 // A run of data words, no more than are due, by the long tables.
@@ -162,7 +162,7 @@ fn fresh_run(image: &mut [u32], words: &[u32]) -> Load
 
 // A whole stream of words.
 pub fn load_words(image: &mut [u32], words: &[u32]) -> Answer
-    ensures { λ r. ⌜ Ends (loadedWords (now (image .entry)) (now (words .entry))) r (now (image .exit)) ⌝ }
+    ensures { λ r. ⌜ EndsWords (now (image .entry)) (now (words .entry)) r (now (image .exit)) ⌝ }
 {
     if image::too_short(image) {
         return Answer::Refused(31);
@@ -202,7 +202,7 @@ fn bytes_run(image: &mut [u32], bytes: &[u8]) -> Load
 
 // A whole stream of bytes.
 pub fn load_bytes(image: &mut [u32], bytes: &[u8]) -> Answer
-    ensures { λ r. ⌜ Ends (loadedBytes (now (image .entry)) (now (bytes .entry))) r (now (image .exit)) ⌝ }
+    ensures { λ r. ⌜ EndsBytes (now (image .entry)) (now (bytes .entry)) r (now (image .exit)) ⌝ }
 {
     if image::too_short(image) {
         return Answer::Refused(31);

@@ -7,6 +7,7 @@ mod flips;
 mod frames;
 mod lists;
 mod pair;
+mod six_numbers;
 mod states;
 mod streams;
 mod tally;
@@ -115,6 +116,7 @@ fn night(seed: u64, rounds: u64, tally: &mut Tally) {
     vectors(&mut rng, tally);
     named(&mut rng, tally);
     cut(&mut rng, tally);
+    lent_numbers(&mut rng, tally);
     turned_over(&mut rng, tally);
     for round in 0..rounds {
         generated(&mut rng, tally, round);
@@ -194,6 +196,12 @@ fn cut(rng: &mut Rng, tally: &mut Tally) {
     let buffer = dirty(rng);
     cuttings::every_cutting(tally, &buffer);
     cuttings::every_stride(tally, "01_min", &buffer, &words_of(&vector("01_min")));
+}
+
+/// What is no load state, what is not read of one, and what a write leaves of it.
+fn lent_numbers(rng: &mut Rng, tally: &mut Tally) {
+    let buffer = dirty(rng);
+    six_numbers::cases(tally, &buffer);
 }
 
 /// Images, ledgers and load states, one bit at a time.

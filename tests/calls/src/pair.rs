@@ -4,7 +4,7 @@ use cases::rng::Rng;
 use reference::image::IMAGE_WORDS;
 use reference::load::{self, LoadAnswer, LoadState};
 
-use crate::states::{is_state, meaning, number_of, state_of, told_with, TOLD};
+use crate::states::{is_state, meaning, number_of, state_of, told_and_table, told_with, TOLD};
 use crate::tally::{same, same_words, Answer, Tally};
 use tailbow::raw::{self as entries, FlatLoad};
 
@@ -153,17 +153,20 @@ impl Pair {
         same_words("buffer", &self.ours, &self.theirs)?;
         same("numbers of a state", is_state(&self.flat), true)?;
         same("state", meaning(&state_of(&self.flat)), meaning(&state))?;
+        let written = (self.flat.told, self.flat.table);
+        same("told and table", written, told_and_table(&flat, &state))?;
         self.as_found(flat, buffer, answer)
     }
 
-    /// A refused call and a repeated answer leave every number and word; a new answer leaves no other trace.
+    /// A refused call and a repeated answer leave every number and word; a new answer leaves no other trace, and the table's number.
     fn as_found(&self, flat: FlatLoad, buffer: &[u32], answer: u32) -> Result<(), String> {
         if flat.phase == TOLD || (30..=32).contains(&answer) {
             same("numbers as found", self.flat, flat)?;
             return same_words("buffer as found", &self.ours, buffer);
         }
         if self.flat.phase == TOLD {
-            return same("numbers after an answer", self.flat, told_with(answer));
+            let expected = told_with(answer, flat.table);
+            return same("numbers after an answer", self.flat, expected);
         }
         Ok(())
     }

@@ -8,8 +8,12 @@ use tailbow::raw::{FlatLoad, MORE};
 
 const PHASES: u32 = 6;
 pub const FRESH: u32 = 0;
+pub const DATA: u32 = 4;
 pub const TOLD: u32 = 5;
-const DATA: u32 = 4;
+
+/// Numbers that no phase has, and numbers that no table has.
+pub const NO_PHASES: [u32; 5] = [PHASES, PHASES + 1, 255, 1 << 31, u32::MAX];
+pub const NO_TABLES: [u32; 5] = [ROWS.len() as u32, ROWS.len() as u32 + 1, 255, 1 << 31, u32::MAX];
 
 /// An answer by its number.
 pub fn number_of(answer: LoadAnswer) -> u32 {
@@ -20,9 +24,13 @@ pub fn number_of(answer: LoadAnswer) -> u32 {
     }
 }
 
-/// Phase and table number are in range; nothing else can be out of it.
+/// The phase is in range, in the data phase the table is, and "more" was not told; nothing else can make it no state (D62).
 pub fn is_state(flat: &FlatLoad) -> bool {
-    flat.phase < PHASES && (flat.table as usize) < ROWS.len()
+    match flat.phase {
+        DATA => (flat.table as usize) < ROWS.len(),
+        TOLD => flat.told != MORE,
+        phase => phase < PHASES,
+    }
 }
 
 /// The second program's state for these numbers, which are a state's.
@@ -30,7 +38,6 @@ pub fn state_of(flat: &FlatLoad) -> LoadState {
     let fresh = LoadState::fresh();
     let begun = LoadState {
         begun: true,
-        table: ROWS[flat.table as usize].table,
         placed: flat.placed,
         due: flat.due,
         header: [flat.first, flat.second],
@@ -43,7 +50,8 @@ pub fn state_of(flat: &FlatLoad) -> LoadState {
         1 => LoadState { phase: Phase::BlockId, ..begun },
         2 => LoadState { phase: Phase::Length, ..begun },
         3 => LoadState { phase: Phase::HeaderChecksum, ..begun },
-        DATA => LoadState { phase: Phase::Data, ..begun },
+        // Here alone the table is part of the state.
+        DATA => LoadState { phase: Phase::Data, table: ROWS[flat.table as usize].table, ..begun },
         _ => LoadState { answer: Some(told(flat.told)), ..begun },
     }
 }
@@ -83,26 +91,63 @@ pub fn meaning(state: &LoadState) -> LoadState {
     }
 }
 
-/// The state after an answer: all 0 but for the answer.
-pub fn told_with(number: u32) -> FlatLoad {
-    FlatLoad { phase: TOLD, told: number, ..FlatLoad::default() }
+/// The told answer and the table that stand in the numbers after a write that came to this state: each is written where that state has
+/// it, the answer in the last phase and the table in the data phase, and stays as it stood before the write everywhere else.
+pub fn told_and_table(before: &FlatLoad, after: &LoadState) -> (u32, u32) {
+    let told = after.answer.map_or(before.told, number_of);
+    let in_a_block = meaning(after).phase == Phase::Data;
+    let table = if in_a_block { after.table.place() as u32 } else { before.table };
+    (told, table)
+}
+
+/// The numbers after an answer: all 0 but for the answer and the table, which stays as it stood.
+pub fn told_with(number: u32, table: u32) -> FlatLoad {
+    FlatLoad { phase: TOLD, told: number, table, ..FlatLoad::default() }
+}
+
+/// A fresh load among any numbers: a first write reads the phase and nothing else.
+pub fn fresh_among_any(rng: &mut Rng) -> FlatLoad {
+    FlatLoad {
+        phase: FRESH,
+        told: any_told(rng),
+        table: any_table(rng),
+        placed: rng.next(),
+        due: rng.next(),
+        first: rng.word(),
+        second: rng.word(),
+        stream: rng.word(),
+        block: rng.word(),
+    }
+}
+
+/// A number that may stand for the told answer before the last phase.
+pub fn any_told(rng: &mut Rng) -> u32 {
+    rng.pick(&[0, 1, 25, 30, 31, 32, 77, MORE - 1, MORE])
+}
+
+/// A number that may stand for the table outside the data phase: a table's, or one that no table has.
+pub fn any_table(rng: &mut Rng) -> u32 {
+    if rng.once_in(2) {
+        return rng.pick(&NO_TABLES);
+    }
+    rng.place(ROWS.len()) as u32
 }
 
 /// One random edit that leaves a state.
 pub fn edited(rng: &mut Rng, flat: &FlatLoad) -> FlatLoad {
     let mut edited = *flat;
-    let row = &ROWS[flat.table as usize];
+    let row = ROWS.get(flat.table as usize).unwrap_or(&ROWS[0]);
     let room = (row.words * row.most) as u64;
     let words = row.words as u64;
     match rng.below(9) {
         0 => edited.placed = rng.pick(&[0, 1, words, room - words, room, room + 1, u64::MAX]),
         1 => edited.due = rng.pick(&[0, 1, words, room - words, room, room + 1, u64::MAX]),
         2 => edited.phase = rng.below(u64::from(PHASES)) as u32,
-        3 => edited.table = rng.place(ROWS.len()) as u32,
+        3 => edited.table = any_table(rng),
         4 => edited.stream = rng.word(),
         5 => edited.block = rng.word(),
         6 => (edited.first, edited.second) = (rng.word(), rng.word()),
-        7 => edited.told = rng.pick(&[0, 1, 25, 30, 31, 32, 77, MORE]),
+        7 => edited.told = any_told(rng),
         // A block of another table, anywhere in it.
         _ => {
             let row = &ROWS[rng.place(ROWS.len())];
@@ -113,18 +158,22 @@ pub fn edited(rng: &mut Rng, flat: &FlatLoad) -> FlatLoad {
             edited.due = rng.below(room - edited.placed + 2);
         }
     }
+    // What the phase reads now must be a state's.
+    match edited.phase {
+        DATA if !is_state(&edited) => edited.table = rng.place(ROWS.len()) as u32,
+        TOLD if !is_state(&edited) => edited.told = MORE - 1,
+        _ => {}
+    }
     edited
 }
 
-/// Numbers that no state has: a phase or a table out of range.
+/// Numbers that no state has: a phase out of range, a table out of range in a block, or "more" as the answer that was told.
 pub fn stateless(rng: &mut Rng, flat: &FlatLoad) -> FlatLoad {
-    let mut edited = *flat;
-    if !rng.once_in(3) {
-        edited.phase = rng.pick(&[PHASES, PHASES + 1, 255, 1 << 31, u32::MAX]);
-    }
-    if is_state(&edited) || rng.once_in(3) {
-        let tables = ROWS.len() as u32;
-        edited.table = rng.pick(&[tables, tables + 1, 255, 1 << 31, u32::MAX]);
+    let mut edited = FlatLoad { table: any_table(rng), told: any_told(rng), ..*flat };
+    match rng.below(3) {
+        0 => edited.phase = rng.pick(&NO_PHASES),
+        1 => (edited.phase, edited.table) = (DATA, rng.pick(&NO_TABLES)),
+        _ => (edited.phase, edited.told) = (TOLD, MORE),
     }
     edited
 }

@@ -8,7 +8,7 @@ use reference::stream::words_of;
 use reference::tables::ROWS;
 
 use crate::pair::{load_bytes, load_words, Pair};
-use crate::states::{edited, stateless, FRESH, TOLD};
+use crate::states::{edited, fresh_among_any, stateless, FRESH, TOLD};
 use crate::tally::{same, same_words, Tally};
 use tailbow::raw::MORE;
 
@@ -43,7 +43,8 @@ pub fn every_way(rng: &mut Rng, tally: &mut Tally, name: &str, bytes: &[u8]) -> 
     answer
 }
 
-/// The words in writes of these lengths from a fresh state, then some that repeat the answer; gives the last answer and the buffer.
+/// The words in writes of these lengths from a fresh state, once in a while with any numbers beside the phase, then some that repeat the
+/// answer; gives the last answer and the buffer.
 fn in_writes(
     rng: &mut Rng,
     tally: &mut Tally,
@@ -53,6 +54,9 @@ fn in_writes(
     cutting: &[usize],
 ) -> (u32, Vec<u32>) {
     let mut pair = Pair::fresh(buffer);
+    if rng.once_in(4) {
+        pair.put_state(fresh_among_any(rng));
+    }
     let (mut answer, mut place) = (MORE, 0);
     for &length in cutting {
         if rng.once_in(16) {

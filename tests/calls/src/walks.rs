@@ -7,7 +7,7 @@ use reference::stream::{Lists, DEVICE_ID};
 use reference::tables::{IDS_OF_TABLE_2, ROWS};
 
 use crate::pair::Pair;
-use crate::states::{is_state, TOLD};
+use crate::states::{any_table, any_told, is_state, TOLD};
 use crate::streams::{dirty, edit};
 use crate::tally::Tally;
 use tailbow::raw::FlatLoad;
@@ -21,7 +21,8 @@ pub fn walk(rng: &mut Rng, tally: &mut Tally, name: &str, lists: &Lists) {
         let mut image = of_lists(lists);
         image.extend([rng.word(), rng.word()]);
         pair.put_buffer(&image);
-        pair.put_state(FlatLoad { phase: 1, stream: rng.word(), ..pair.flat });
+        let (told, table) = (any_told(rng), any_table(rng));
+        pair.put_state(FlatLoad { phase: 1, told, table, stream: rng.word(), ..pair.flat });
     }
     for _ in 0..WRITES {
         let sound = pair.clone();

@@ -5,12 +5,13 @@ use Prim.Native.Nat.{ℕ, _+_, _-_, _≤_}
 use native.Mathlib.Omega.{arith}
 use borrow.Author.Needs.{needs}
 use denote.Ref.{now}
-use Rattle.laws.specs.Scan.{some-below, some-none}
+use Rattle.laws.specs.Scan.{some-below}
+use Rattle.laws.specs.ScanLaws.{some-none}
 use Rattle.image.specs.Layout.{imageIn, countOf}
 use Rattle.image.specs.declared.tables.Table.the-variants.{AddressLookup}
 use Rattle.addresses.specs.Address.{bars}
-use Rattle.lookup.specs.Groups.{none-yet, none-up-to, some-rest, some-in}
-use Rattle.addresses.specs.Leading.{none-bar}
+use Rattle.lookup.specs.GroupsLaws.{none-yet, none-up-to, some-rest, some-in}
+use Rattle.addresses.specs.LeadingLaws.{none-bar}
 use Rattle.addresses.proofs.barred.Statement.{statement}
 use Rattle.addresses.proofs.barred.Tie as tie
 

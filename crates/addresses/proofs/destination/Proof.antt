@@ -10,8 +10,10 @@ use Rattle.image.specs.Layout.{imageIn, countOf}
 use Rattle.image.specs.declared.tables.Table.the-variants.{AddressLookup}
 use Rattle.fields.specs.Fields.{index}
 use Rattle.addresses.specs.Address.{matches}
-use Rattle.addresses.specs.Least.{Leads, leads-none, leads-up-to, leads-end, leads-within}
-use Rattle.addresses.specs.Leading.{Leading, none-match}
+use Rattle.addresses.specs.Least.{Leads}
+use Rattle.addresses.specs.LeastLaws.{leads-none, leads-up-to, leads-end, leads-within}
+use Rattle.addresses.specs.Leading.{Leading}
+use Rattle.addresses.specs.LeadingLaws.{none-match}
 use Rattle.addresses.proofs.destination.Statement.{statement}
 use Rattle.addresses.proofs.destination.Tie as tie
 

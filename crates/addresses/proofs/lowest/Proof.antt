@@ -6,12 +6,13 @@ use native.Mathlib.Omega.{arith}
 use native.Mathlib.Nat.{mod-lt, add-zero, le-antisymm}
 use lib.Pow.{pow-pos}
 use borrow.Author.Needs.{needs}
-use Rattle.laws.specs.Scan.{part-inside}
+use Rattle.laws.specs.ScanLaws.{part-inside}
 use Rattle.image.specs.Layout.{imageIn, countOf}
 use Rattle.image.specs.declared.tables.Table.the-variants.{AddressLookup}
 use Rattle.fields.specs.Fields.{index}
 use Rattle.addresses.specs.Address.{matches}
-use Rattle.addresses.specs.Least.{Leads, leads-at, leads-taken, leads-kept}
+use Rattle.addresses.specs.Least.{Leads}
+use Rattle.addresses.specs.LeastLaws.{leads-at, leads-taken, leads-kept}
 use Rattle.addresses.proofs.lowest.Statement.{statement}
 use Rattle.addresses.proofs.lowest.Tie as tie
 

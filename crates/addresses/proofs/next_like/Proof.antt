@@ -6,10 +6,12 @@ use native.Mathlib.Nat.{le-refl}
 use native.Mathlib.Omega.{arith}
 use borrow.Author.Needs.{needs}
 use denote.Ref.{now}
-use Rattle.laws.specs.Scan.{some-below, some-none}
+use Rattle.laws.specs.Scan.{some-below}
+use Rattle.laws.specs.ScanLaws.{some-none}
 use Rattle.image.specs.Layout.{imageIn}
 use Rattle.addresses.specs.Address.{likeAddress}
-use Rattle.lookup.specs.Groups.{from, none-further, not-none}
+use Rattle.lookup.specs.Groups.{from}
+use Rattle.lookup.specs.GroupsLaws.{none-further, not-none}
 use Rattle.addresses.proofs.next_like.Statement.{statement}
 use Rattle.addresses.proofs.next_like.Tie as tie
 

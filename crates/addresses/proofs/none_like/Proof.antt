@@ -6,9 +6,11 @@ use native.Mathlib.Nat.{le-antisymm, lt-trans}
 use native.Mathlib.Omega.{arith}
 use lib.Dec.{eqb}
 use borrow.Author.Needs.{needs}
-use Rattle.laws.specs.Scan.{flag, part-inside}
+use Rattle.laws.specs.Scan.{flag}
+use Rattle.laws.specs.ScanLaws.{part-inside}
 use Rattle.image.specs.Layout.{imageIn}
-use Rattle.lookup.specs.Groups.{from, Clear, clear-none, clear-more, clear-end}
+use Rattle.lookup.specs.Groups.{from, Clear}
+use Rattle.lookup.specs.GroupsLaws.{clear-none, clear-more, clear-end}
 use Rattle.addresses.specs.Address.{likeAddress}
 use Rattle.addresses.proofs.none_like.Statement.{statement}
 use Rattle.addresses.proofs.none_like.Tie as tie

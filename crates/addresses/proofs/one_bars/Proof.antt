@@ -4,7 +4,8 @@ use mathlib.Core.Bool.{false}
 use Prim.Native.Nat.{_-_, _≤_}
 use native.Mathlib.Omega.{arith}
 use borrow.Author.Needs.{needs}
-use Rattle.laws.specs.Scan.{some-below, some-none, some-not, some-found, some-end, part-inside}
+use Rattle.laws.specs.Scan.{some-below}
+use Rattle.laws.specs.ScanLaws.{some-none, some-not, some-found, some-end, part-inside}
 use Rattle.image.specs.Layout.{imageIn}
 use Rattle.addresses.specs.Address.{bars}
 use Rattle.lookup.specs.Groups.{from}

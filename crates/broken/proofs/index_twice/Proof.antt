@@ -3,9 +3,10 @@ use mathlib.Core.List.{List}
 use Prim.Native.Nat.{ℕ, _-_, _≤_}
 use borrow.Author.Needs.{needs}
 use Rattle.laws.specs.Chain.{lt-of}
-use Rattle.laws.specs.Scan.{Counting, counting-none, counting-more, counting-end}
+use Rattle.laws.specs.Scan.{Counting}
+use Rattle.laws.specs.ScanLaws.{counting-none, counting-more, counting-end}
 use Rattle.image.specs.Layout.{imageIn}
-use Rattle.image.specs.Sound.{held}
+use Rattle.image.specs.SoundLaws.{held}
 use Rattle.fields.specs.Fields.{index}
 use Rattle.broken.proofs.index_twice.Statement.{statement}
 use Rattle.broken.proofs.index_twice.Tie as tie

@@ -9,9 +9,10 @@ use lib.Dec.{ltb}
 use borrow.Author.Needs.{needs}
 use borrow.Author.Tests.{lt-ltb, le-ltb}
 use Rattle.laws.specs.Chain.{lt-of}
-use Rattle.laws.specs.Scan.{some-below, some-none, some-not, some-found, some-end}
+use Rattle.laws.specs.Scan.{some-below}
+use Rattle.laws.specs.ScanLaws.{some-none, some-not, some-found, some-end}
 use Rattle.image.specs.Layout.{imageIn, countOf}
-use Rattle.image.specs.Sound.{held}
+use Rattle.image.specs.SoundLaws.{held}
 use Rattle.image.specs.declared.tables.Table.the-variants.{Policing}
 use Rattle.fields.specs.Fields.{sharindx}
 use Rattle.broken.specs.Broken.{sharindxBeyond}

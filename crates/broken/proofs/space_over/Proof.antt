@@ -5,9 +5,10 @@ use Prim.Native.Nat.{ℕ, _+_, _-_, _*_, _≤_}
 use native.Mathlib.Nat.{le-antisymm}
 use borrow.Author.Needs.{needs}
 use Rattle.laws.specs.Chain.{lt-of}
-use Rattle.laws.specs.Scan.{total, total-none, total-more}
+use Rattle.laws.specs.Scan.{total}
+use Rattle.laws.specs.ScanLaws.{total-none, total-more}
 use Rattle.image.specs.Layout.{imageIn}
-use Rattle.image.specs.Sound.{held}
+use Rattle.image.specs.SoundLaws.{held}
 use Rattle.fields.specs.Fields.{partSpc}
 use Rattle.broken.proofs.space_over.Statement.{statement}
 use Rattle.broken.proofs.space_over.Tie as tie

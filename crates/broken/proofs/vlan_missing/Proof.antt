@@ -9,14 +9,15 @@ use lib.Dec.{eqb}
 use lib.ListN.{length, getD}
 use borrow.Author.Needs.{needs}
 use Rattle.laws.specs.Chain.{lt-of}
-use Rattle.laws.specs.Scan.{some-below, some-none, some-not, some-found, some-end, flag, Marks}
+use Rattle.laws.specs.Scan.{some-below, flag, Marks}
+use Rattle.laws.specs.ScanLaws.{some-none, some-not, some-found, some-end}
 use Rattle.image.specs.Layout.{imageIn, countOf}
-use Rattle.image.specs.Sound.{held}
+use Rattle.image.specs.SoundLaws.{held}
 use Rattle.image.specs.declared.tables.Table.the-variants.{VlanLookup}
 use Rattle.fields.specs.Fields.{vlanid, portVlanid}
 use Rattle.lookup.specs.Vlan.{hasVlan, vlanAt}
 use Rattle.broken.specs.Broken.{vlanMissing}
-use Rattle.broken.specs.Passes.{first-some}
+use Rattle.broken.specs.PassesLaws.{first-some}
 use Rattle.broken.proofs.vlan_missing.Statement.{statement}
 use Rattle.broken.proofs.vlan_missing.Tie as tie
 

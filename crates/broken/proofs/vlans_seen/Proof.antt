@@ -3,11 +3,12 @@ use mathlib.Core.List.{List}
 use Prim.Native.Nat.{ℕ, _-_, _≤_}
 use borrow.Author.Needs.{needs}
 use Rattle.laws.specs.Chain.{lt-of}
-use Rattle.laws.specs.Scan.{Counting, counting-none, counting-more}
+use Rattle.laws.specs.Scan.{Counting}
+use Rattle.laws.specs.ScanLaws.{counting-none, counting-more}
 use Rattle.image.specs.Layout.{imageIn}
-use Rattle.image.specs.Sound.{held}
+use Rattle.image.specs.SoundLaws.{held}
 use Rattle.fields.specs.Fields.{vlanid}
-use Rattle.broken.specs.Passes.{counting-whole}
+use Rattle.broken.specs.PassesLaws.{counting-whole}
 use Rattle.broken.proofs.vlans_seen.Statement.{statement}
 use Rattle.broken.proofs.vlans_seen.Tie as tie
 

@@ -1,5 +1,6 @@
 -- `crc_long::look` meets its contract: the bytes' entries are what the word leaves.
-use Rattle.crc_long.specs.Turn.{looked, looked-bits}
+use Rattle.crc_long.specs.Turn.{looked}
+use Rattle.crc_long.specs.TurnLaws.{looked-bits}
 use borrow.Author.Needs.{needs}
 use Rattle.crc_long.proofs.look.Statement.{statement}
 use Rattle.crc_long.proofs.look.Tie as tie

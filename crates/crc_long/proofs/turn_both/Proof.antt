@@ -1,5 +1,5 @@
 -- `crc_long::turn_both` meets its contract: what the first word leaves with each register, and what the others leave, once for both.
-use Rattle.crc.specs.Four.{turned}
+use Rattle.crc.specs.FourLaws.{turned}
 use borrow.Author.Needs.{needs}
 use Rattle.crc_long.proofs.turn_both.Statement.{statement}
 use Rattle.crc_long.proofs.turn_both.Tie as tie

@@ -6,10 +6,12 @@ use native.Mathlib.Omega.{arith}
 use borrow.Author.Needs.{needs}
 use lib.Bits.{bitXor}
 use Rattle.crc.specs.Crc.{bitsOut}
-use Rattle.crc.specs.Bytes.{Taken, taken-none, taken-more, taken-all}
+use Rattle.crc.specs.Bytes.{Taken}
+use Rattle.crc.specs.BytesLaws.{taken-none, taken-more, taken-all}
 use Rattle.crc_short_bytes.specs.Twice.{twice}
-use Rattle.crc_short_bytes.specs.Arm.{halves}
-use Rattle.crc_short.specs.Turn.{reach, reach-far, reach-near}
+use Rattle.crc_short_bytes.specs.ArmLaws.{halves}
+use Rattle.crc_short.specs.Turn.{reach}
+use Rattle.crc_short.specs.TurnLaws.{reach-far, reach-near}
 use Rattle.crc_short.proofs.kept.Statement.{statement}
 use Rattle.crc_short.proofs.kept.Tie as tie
 

@@ -2,8 +2,8 @@
 -- the last the low halves; what the last three leave is once for both.
 use borrow.Author.Needs.{needs}
 use lib.Bits.{xor-lt}
-use Rattle.crc.specs.Four.{turned}
-use Rattle.crc_short.specs.Turn.{low-bits, high-bits, shared-rest}
+use Rattle.crc.specs.FourLaws.{turned}
+use Rattle.crc_short.specs.TurnLaws.{low-bits, high-bits, shared-rest}
 use Rattle.crc_short.proofs.turn.Statement.{statement}
 use Rattle.crc_short.proofs.turn.Tie as tie
 

@@ -3,7 +3,7 @@ use mathlib.Core.Path.{_≡_}
 use Prim.Native.Nat.{_-_, _≤_}
 use lib.ListN.{length, drop}
 use Rattle.crc.specs.Crc.{wordsIn}
-use Rattle.crc.specs.Four.{turn-more}
+use Rattle.crc.specs.FourLaws.{turn-more}
 use Rattle.crc.specs.Laws.{wordsIn-rest}
 use borrow.Author.Needs.{needs}
 use Rattle.crc_short.proofs.words_in_both.Statement.{statement}

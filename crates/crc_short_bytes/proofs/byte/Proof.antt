@@ -6,7 +6,8 @@ use borrow.Author.Needs.{needs}
 use lib.Dec.{T, eqb, lit<}
 use Rattle.crc.specs.Crc.{bit, bitsOut}
 use Rattle.crc_short_bytes.specs.Twice.{twice}
-use Rattle.crc_short_bytes.specs.Arm.{basis, arm}
+use Rattle.crc_short_bytes.specs.Arm.{basis}
+use Rattle.crc_short_bytes.specs.ArmLaws.{arm}
 use Rattle.crc.specs.Arm.{pick}
 use Rattle.crc_short_bytes.proofs.byte.Statement.{statement}
 use Rattle.crc_short_bytes.proofs.byte.Tie as tie

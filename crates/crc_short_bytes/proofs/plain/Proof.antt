@@ -1,6 +1,6 @@
 -- `crc_short_bytes::plain` meets its contract: the two halves are what the two runs of the plain loop give.
 use borrow.Author.Needs.{needs}
-use Rattle.crc_short_bytes.specs.Twice.{twice-of}
+use Rattle.crc_short_bytes.specs.TwiceLaws.{twice-of}
 use Rattle.crc_short_bytes.proofs.plain.Statement.{statement}
 use Rattle.crc_short_bytes.proofs.plain.Tie as tie
 

@@ -6,8 +6,9 @@ use native.Mathlib.Omega.{arith}
 use borrow.Author.Needs.{needs}
 use lib.Bits.{bitXor}
 use Rattle.crc.specs.Crc.{bitsOut}
-use Rattle.crc.specs.Arm.{itself}
-use Rattle.crc.specs.Bytes.{Taken, taken-none, taken-more, taken-all}
+use Rattle.crc.specs.ArmLaws.{itself}
+use Rattle.crc.specs.Bytes.{Taken}
+use Rattle.crc.specs.BytesLaws.{taken-none, taken-more, taken-all}
 use Rattle.crc_word.proofs.leaves.Statement.{statement}
 use Rattle.crc_word.proofs.leaves.Tie as tie
 

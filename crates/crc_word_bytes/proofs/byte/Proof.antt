@@ -5,7 +5,8 @@ use Prim.Native.Nat.{ℕ, _+_, _<_}
 use borrow.Author.Needs.{needs}
 use lib.Dec.{T, eqb, lit<}
 use Rattle.crc.specs.Crc.{bit, bitsOut}
-use Rattle.crc.specs.Arm.{pick, basis, bits-linear, arm}
+use Rattle.crc.specs.Arm.{pick, basis}
+use Rattle.crc.specs.ArmLaws.{bits-linear, arm}
 use Rattle.crc_word_bytes.proofs.byte.Statement.{statement}
 use Rattle.crc_word_bytes.proofs.byte.Tie as tie
 

@@ -1,7 +1,8 @@
 -- `flat_answers::flat_shown`: the kind of each tile, and the bits of shares.
 use mathlib.Core.Path.{sym, ap, _∙_}
 use borrow.Author.Needs.{needs}
-use Rattle.flat_answers.specs.Answers.{flatShown, shown-as}
+use Rattle.flat_answers.specs.Answers.{flatShown}
+use Rattle.flat_answers.specs.AnswersLaws.{shown-as}
 use Rattle.flat_answers.proofs.flat_shown.Statement.{statement}
 use Rattle.flat_answers.proofs.flat_shown.Tie as tie
 

@@ -1,6 +1,6 @@
 -- `flat_frames::fresh_ledger`: the answer's number, and the row.
 use borrow.Author.Needs.{needs}
-use Rattle.flat_frames.specs.Frames.{freshens}
+use Rattle.flat_frames.specs.FramesLaws.{freshens}
 use Rattle.flat_frames.proofs.fresh_ledger.Statement.{statement}
 use Rattle.flat_frames.proofs.fresh_ledger.Tie as tie
 

@@ -1,6 +1,6 @@
 -- `flat_frames::judge`: the verdict's numbers, and the row.
 use borrow.Author.Needs.{needs}
-use Rattle.flat_frames.specs.Frames.{judges}
+use Rattle.flat_frames.specs.FramesLaws.{judges}
 use Rattle.flat_frames.proofs.judge.Statement.{statement}
 use Rattle.flat_frames.proofs.judge.Tie as tie
 

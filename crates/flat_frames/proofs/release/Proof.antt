@@ -1,6 +1,6 @@
 -- `flat_frames::release`: the answer's number, and the row.
 use borrow.Author.Needs.{needs}
-use Rattle.flat_frames.specs.Frames.{releases}
+use Rattle.flat_frames.specs.FramesLaws.{releases}
 use Rattle.flat_frames.proofs.release.Statement.{statement}
 use Rattle.flat_frames.proofs.release.Tie as tie
 

@@ -1,6 +1,6 @@
 -- `flat_frames::tile`: the tile's numbers.
 use borrow.Author.Needs.{needs}
-use Rattle.flat_frames.specs.Frames.{tiles}
+use Rattle.flat_frames.specs.FramesLaws.{tiles}
 use Rattle.flat_frames.proofs.tile.Statement.{statement}
 use Rattle.flat_frames.proofs.tile.Tie as tie
 

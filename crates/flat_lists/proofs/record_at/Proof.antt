@@ -1,6 +1,6 @@
 -- `flat_lists::record_at`: the numbers of what stands there.
 use borrow.Author.Needs.{needs}
-use Rattle.flat_lists.specs.Lists.{records}
+use Rattle.flat_lists.specs.ListsLaws.{records}
 use Rattle.flat_lists.proofs.record_at.Statement.{statement}
 use Rattle.flat_lists.proofs.record_at.Tie as tie
 

@@ -1,6 +1,6 @@
 -- `flat_loads::place_of`: its tests in the definition's order, then the block's.
 use borrow.Author.Needs.{needs}
-use Rattle.image.specs.Sound.{has-room}
+use Rattle.image.specs.SoundLaws.{has-room}
 use Rattle.laws.specs.Chain.{hit, pass, hit-ne, pass-ne, hit-le, pass-le}
 use Rattle.flat_loads.specs.Data.{flatPlace}
 use Rattle.flat_loads.proofs.Laws.{place-by}

@@ -1,7 +1,7 @@
 -- `image::word`: a word of the image is the buffer's.
 use borrow.Author.Needs.{needs}
 use mathlib.Core.Path.{sym, _∙_}
-use Rattle.image.specs.Layout.{getD-in}
+use Rattle.image.specs.LayoutLaws.{getD-in}
 use Rattle.image.proofs.word.Statement.{statement}
 use Rattle.image.proofs.word.Tie as tie
 

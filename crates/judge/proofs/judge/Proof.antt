@@ -1,7 +1,7 @@
 -- `judge::judge`: refused with the row as it was; or the plan carried out, and noted.
 use native.Mathlib.Omega.{arith}
 use borrow.Author.Needs.{needs}
-use Rattle.settle.specs.Countable.{still-countable}
+use Rattle.settle.specs.CountableLaws.{still-countable}
 use Rattle.judge.specs.Laws.{admitted-as, plan-runs, is-refused, is-judged}
 use Rattle.judge.proofs.judge.Statement.{statement}
 use Rattle.judge.proofs.judge.Tie as tie

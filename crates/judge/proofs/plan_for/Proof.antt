@@ -3,7 +3,8 @@ use mathlib.Core.Path.{sym, ap, subst, _∙_}
 use borrow.Author.Needs.{needs}
 use denote.Ref.{now}
 use Rattle.image.specs.Layout.{imageIn}
-use Rattle.plan.specs.EnterLaws.{Through, through}
+use Rattle.plan.specs.LetIn.{Through}
+use Rattle.plan.specs.EnterLaws.{through}
 use Rattle.judge.specs.Judge.{byEntry, planFor}
 use Rattle.judge.proofs.plan_for.Statement.{statement}
 use Rattle.judge.proofs.plan_for.Tie as tie

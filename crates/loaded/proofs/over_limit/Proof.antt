@@ -4,7 +4,8 @@ use mathlib.Core.Bool.{Bool, false}
 use mathlib.Core.List.{List}
 use Prim.Native.Nat.{ℕ, _-_, _≤_}
 use borrow.Author.Needs.{needs}
-use Rattle.laws.specs.Scan.{some-below, some-none, some-not, some-found, some-end}
+use Rattle.laws.specs.Scan.{some-below}
+use Rattle.laws.specs.ScanLaws.{some-none, some-not, some-found, some-end}
 use Rattle.image.specs.Rows.{tableCount, rowAt}
 use Rattle.image.specs.Layout.{imageIn}
 use Rattle.image.specs.Loaded.{above, overLimit}

@@ -3,7 +3,7 @@ use mathlib.Core.Path.{_≡_, refl, sym, _∙_, ap, subst}
 use Prim.Native.Nat.{ℕ, _+_, _/_, _%_, _<_, _≤_}
 use Rattle.laws.specs.Chain.{hit-ne, pass-ne, hit-lt, pass-lt}
 use Rattle.image.specs.Rows.{sizeOf, mostOf}
-use Rattle.image.specs.RowLaws.{RowOf}
+use Rattle.image.specs.Placed.{RowOf}
 use Rattle.image.specs.declared.tables.Table.{Table}
 use Rattle.image.specs.declared.tables.Row.{Row}
 use Rattle.image.specs.declared.tables.Block.the-variants.{Carried}

@@ -15,7 +15,8 @@ use Rattle.rules.specs.Rules.{ruled}
 use Rattle.stream.specs.Header.{idOf, lengthOf, headerOf}
 use Rattle.stream.specs.Machine.{at, told, refuse, hadIn, finish, endedBy, begins, begunBy, summed}
 use Rattle.stream.specs.declared.Header.{Header}
-use Rattle.stream.specs.Fine.{Fine, store-fine, mark-kept}
+use Rattle.stream.specs.Fine.{Fine}
+use Rattle.stream.specs.FineLaws.{store-fine, mark-kept}
 
 -- ---- the end
 -- the mark does not show once the image is cleared

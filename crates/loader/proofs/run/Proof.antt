@@ -6,7 +6,8 @@ use lib.ListN.{length, drop}
 use borrow.Author.Needs.{needs}
 use denote.Ref.{now}
 use Rattle.stream.specs.Machine.{Machine, at, run}
-use Rattle.stream.specs.Fine.{Fine, step-fine}
+use Rattle.stream.specs.Fine.{Fine}
+use Rattle.stream.specs.FineLaws.{step-fine}
 use Rattle.stream.proofs.states.Laws.{leaves-at, at-leaves}
 use Rattle.loader.proofs.Laws.{one-more, run-end}
 use Rattle.loader.proofs.run.Statement.{statement}

@@ -9,7 +9,7 @@ use denote.Ref.{now}
 use Rattle.laws.specs.Chain.{hit, pass, pass-lt, chain}
 use Rattle.image.specs.Layout.{entryWords, imageIn}
 use Rattle.image.specs.Rows.{sizeOf}
-use Rattle.image.specs.Sound.{within-limits}
+use Rattle.image.specs.SoundLaws.{within-limits}
 use Rattle.stream.specs.Machine.{beyond}
 use Rattle.one_block.specs.Data.{dataPlace}
 use Rattle.placing.proofs.refusal.Laws.{beyond-is}

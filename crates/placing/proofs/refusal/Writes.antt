@@ -5,7 +5,7 @@ use mathlib.Core.List.{List}
 use Prim.Native.Nat.{ℕ, _≤_}
 use lib.ListN.{length}
 use borrow.Author.Tests.{le-ltb}
-use Rattle.image.specs.Sound.{has-room}
+use Rattle.image.specs.SoundLaws.{has-room}
 use Rattle.laws.specs.Chain.{hit, pass, zero-first, zero-rest}
 use Rattle.image.specs.Layout.{imageWords, imageIn, cleared}
 use Rattle.image.specs.Loaded.{tooShort}
@@ -17,7 +17,8 @@ use Rattle.stream.specs.Answers.{saidOf}
 use Rattle.stream.specs.Leaves.{Leaves, Writes}
 use Rattle.placing.specs.Refusal.{writeRefusal}
 use Rattle.stream.specs.declared.states.Wrote.{Wrote}
-use Rattle.stream.specs.Fine.{Fine, Roomy, undamaged-fine, cleared-fine}
+use Rattle.stream.specs.Fine.{Fine, Roomy}
+use Rattle.stream.specs.FineLaws.{undamaged-fine, cleared-fine}
 use Rattle.stream.specs.declared.Answer.the-variants.{Refused}
 
 -- ---- refused

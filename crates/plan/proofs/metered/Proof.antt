@@ -1,6 +1,6 @@
 -- `plan::metered`: 7 for the meter's entry, then 8.
 use mathlib.Core.Path.{refl}
-use Rattle.image.specs.Sound.{held}
+use Rattle.image.specs.SoundLaws.{held}
 use Rattle.image.specs.declared.tables.Table.the-variants.{Policing}
 use Rattle.laws.specs.Chain.{hit-le, pass-le, hit-lt, pass-lt, of-lt, of-le, le-of, lt-of}
 use Rattle.plan.proofs.metered.Statement.{statement}

@@ -8,7 +8,8 @@ use denote.Ref.{now}
 use Rattle.image.specs.Layout.{imageIn}
 use Rattle.plan.specs.Police.{policedBy, policedOf}
 use Rattle.plan.specs.Plan.{byPolicer, planOf}
-use Rattle.plan.specs.Laws.{Loaded, policed}
+use Rattle.plan.specs.Sane.{Loaded}
+use Rattle.plan.specs.Laws.{policed}
 use Rattle.plan.proofs.plan.Statement.{statement}
 use Rattle.plan.proofs.plan.Tie as tie
 

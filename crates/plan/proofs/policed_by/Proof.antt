@@ -2,7 +2,7 @@
 use mathlib.Core.Path.{ap, _∙_}
 use Prim.Native.Nat.{ℕ}
 use denote.Ref.{now}
-use Rattle.image.specs.Sound.{held}
+use Rattle.image.specs.SoundLaws.{held}
 use Rattle.laws.specs.Chain.{hit-le, pass-le, of-le, lt-of}
 use Rattle.image.specs.Layout.{imageIn}
 use Rattle.image.specs.declared.tables.Table.the-variants.{Policing}

@@ -1,7 +1,7 @@
 -- `ports::egress_ports`: a bit for each port.
 use mathlib.Core.Path.{_∙_}
 use lib.Dec.{lit<}
-use Rattle.image.specs.Sound.{port-held}
+use Rattle.image.specs.SoundLaws.{port-held}
 use Rattle.ports.specs.Laws.{same-mask}
 use Rattle.ports.proofs.egress_ports.Statement.{statement}
 use Rattle.ports.proofs.egress_ports.Tie as tie

@@ -1,5 +1,5 @@
 -- `ports::ports`: every cut.
-use Rattle.image.specs.Sound.{held, domain-held}
+use Rattle.image.specs.SoundLaws.{held, domain-held}
 use Rattle.image.specs.declared.tables.Table.the-variants.{VlanLookup}
 use Rattle.ports.specs.Ports.{portsOf}
 use Rattle.ports.specs.Laws.{same-cut}

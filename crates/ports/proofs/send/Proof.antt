@@ -6,7 +6,7 @@ use lib.Bits.{bitAnd}
 use lib.Dec.{lit<}
 use denote.Ref.{now}
 use Rattle.image.specs.Layout.{imageIn}
-use Rattle.image.specs.Sound.{held, domain-held}
+use Rattle.image.specs.SoundLaws.{held, domain-held}
 use Rattle.image.specs.declared.tables.Table.the-variants.{VlanLookup}
 use Rattle.ports.specs.Ports.{sendingAt, sendingOf}
 use Rattle.ports.specs.Laws.{same-sending}

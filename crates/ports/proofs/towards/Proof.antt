@@ -3,7 +3,7 @@ use mathlib.Core.Path.{_≡_, sym, _∙_}
 use Prim.Native.Nat.{ℕ, _<_, _≤_}
 use native.Mathlib.Omega.{arith}
 use Rattle.laws.specs.Chain.{hit-eq, pass-eq}
-use Rattle.image.specs.Sound.{held, domain-held}
+use Rattle.image.specs.SoundLaws.{held, domain-held}
 use Rattle.image.specs.declared.tables.Table.the-variants.{AddressLookup}
 use Rattle.ports.proofs.towards.Statement.{statement}
 use Rattle.ports.proofs.towards.Tie as tie

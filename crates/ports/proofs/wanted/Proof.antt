@@ -5,7 +5,7 @@ use lib.Bits.{bitAnd}
 use denote.Ref.{now}
 use Rattle.laws.specs.Chain.{hit-eq, pass-eq}
 use Rattle.image.specs.Layout.{imageIn}
-use Rattle.image.specs.Sound.{held, domain-held}
+use Rattle.image.specs.SoundLaws.{held, domain-held}
 use Rattle.image.specs.declared.tables.Table.the-variants.{AddressLookup, VlanLookup, LookupParameters}
 use Rattle.ports.specs.Ports.{towards, wantedOf}
 use Rattle.ports.proofs.wanted.Statement.{statement}

@@ -1,7 +1,8 @@
 -- `settle::carry_out`: by the plan's case.
 use mathlib.Core.Path.{subst}
 use borrow.Author.Needs.{needs}
-use Rattle.settle.specs.Laws.{RunsAll, carries-as, drop-carries}
+use Rattle.settle.specs.Runs.{RunsAll}
+use Rattle.settle.specs.Laws.{carries-as, drop-carries}
 use Rattle.settle.proofs.carry_out.Statement.{statement}
 use Rattle.settle.proofs.carry_out.Tie as tie
 

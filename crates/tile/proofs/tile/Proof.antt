@@ -3,7 +3,7 @@ use native.Mathlib.Omega.{arith}
 use mathlib.Core.Path.{sym, ap, _∙_}
 use denote.Ref.{now}
 use Rattle.laws.specs.Chain.{hit, pass, hit-lt, pass-lt}
-use Rattle.image.specs.Sound.{sound, has-room}
+use Rattle.image.specs.SoundLaws.{sound, has-room}
 use Rattle.tile.specs.declared.shares.Asked.the-variants.{Shown}
 use Rattle.tile.specs.Tiles.{askedOf}
 use Rattle.tile.specs.TilesLaws.{tiled}

@@ -8,7 +8,8 @@ use borrow.Author.Needs.{needs}
 use denote.Ref.{now}
 use Rattle.stream.specs.Paper.{wordsOf}
 use Rattle.stream.specs.Machine.{Machine, at, fresh, run}
-use Rattle.stream.specs.Fine.{Fine, cleared-fine, run-fine}
+use Rattle.stream.specs.Fine.{Fine}
+use Rattle.stream.specs.FineLaws.{cleared-fine, run-fine}
 use Rattle.stream.proofs.states.Laws.{so, leaves-at}
 use Rattle.whole.proofs.Laws.{started, part-of, bytes-on}
 use Rattle.quick.proofs.Laws.{part-is}

@@ -5,7 +5,8 @@ use denote.Ref.{now}
 use Rattle.stream.proofs.states.Laws.{so}
 use Rattle.whole.proofs.Laws.{started}
 use Rattle.stream.specs.Machine.{Machine, fresh, run}
-use Rattle.stream.specs.Fine.{Fine, cleared-fine}
+use Rattle.stream.specs.Fine.{Fine}
+use Rattle.stream.specs.FineLaws.{cleared-fine}
 use Rattle.whole.proofs.fresh_long.Statement.{statement}
 use Rattle.whole.proofs.fresh_long.Tie as tie
 

@@ -2,7 +2,7 @@
 use mathlib.Core.Path.{refl, sym, _∙_, ap, subst}
 use borrow.Author.Needs.{needs}
 use denote.Ref.{now}
-use Rattle.image.specs.Sound.{has-room}
+use Rattle.image.specs.SoundLaws.{has-room}
 use Rattle.whole.proofs.Laws.{ends-as, bytes-31, bytes-9, bytes-whole}
 use Rattle.stream.proofs.states.Laws.{leaves-at}
 use Prim.Native.Nat.{ℕ, _≤_}

@@ -12,7 +12,8 @@ use Rattle.image.specs.RowLaws.{entry-ends}
 use Rattle.image.specs.Layout.{Held, imageWords, imageIn}
 use Rattle.image.specs.declared.tables.Table.{Table}
 use Rattle.fields.specs.Fields.{number, bits, fieldOf}
-use Rattle.fields.specs.Laws.{Words, words-in, field-in-word, field-in-pair}
+use Rattle.fields.specs.Words.{Words}
+use Rattle.fields.specs.Laws.{words-in, field-in-word, field-in-pair}
 use Rattle.fields.proofs.bits.field.Statement.{statement}
 use Rattle.fields.proofs.bits.field.Tie as tie
 

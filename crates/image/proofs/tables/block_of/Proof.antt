@@ -2,7 +2,8 @@
 use mathlib.Core.Path.{sym, ap}
 use borrow.Author.Needs.{needs}
 use Rattle.laws.specs.Chain.{pass-eq}
-use Rattle.image.specs.Blocks.{blockOf, is-listed, not-listed}
+use Rattle.image.specs.Blocks.{blockOf}
+use Rattle.image.specs.BlocksLaws.{is-listed, not-listed}
 use Rattle.image.proofs.tables.block_of.Statement.{statement}
 use Rattle.image.proofs.tables.block_of.Tie as tie
 

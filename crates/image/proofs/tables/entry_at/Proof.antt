@@ -4,7 +4,8 @@ use Prim.Native.Nat.{ℕ, _+_, _*_, _≤_}
 use native.Mathlib.Omega.{arith}
 use borrow.Author.Needs.{needs}
 use Rattle.image.specs.Rows.{startOf, sizeOf, mostOf}
-use Rattle.image.specs.RowLaws.{RowOf, entry-starts}
+use Rattle.image.specs.Placed.{RowOf}
+use Rattle.image.specs.RowLaws.{entry-starts}
 use Rattle.image.specs.Layout.{entryWords}
 use Rattle.image.specs.declared.tables.Table.{Table}
 use Rattle.image.specs.declared.tables.Row.{Row}

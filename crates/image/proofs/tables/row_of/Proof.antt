@@ -5,7 +5,8 @@ use Rattle.image.specs.declared.tables.Table.{Table}
 use Rattle.image.specs.declared.tables.Table.the-variants.{AddressLookup, Policing, VlanLookup, Forwarding, MacConfiguration, LookupParameters, ForwardingParameters, GeneralParameters, XmiiModeParameters}
 use Rattle.image.specs.declared.tables.Row.{Row}
 use Rattle.image.specs.Rows.{indexOf, startOf, sizeOf, mostOf}
-use Rattle.image.specs.RowLaws.{RowOf, row-is}
+use Rattle.image.specs.Placed.{RowOf}
+use Rattle.image.specs.RowLaws.{row-is}
 use Rattle.image.proofs.tables.row_of.Statement.{statement}
 use Rattle.image.proofs.tables.row_of.Tie as tie
 

@@ -3,7 +3,8 @@ use mathlib.Core.Path.{_≡_, sym, ap}
 use Prim.Native.Nat.{ℕ}
 use lib.ListN.{List·getD-eq-default}
 use borrow.Author.Needs.{needs}
-use Rattle.laws.specs.Scan.{Misses, misses-above}
+use Rattle.laws.specs.Scan.{Misses}
+use Rattle.laws.specs.ScanLaws.{misses-above}
 use Rattle.image.specs.Rows.{Row, rows, tableCount, rowAt, blank}
 use Rattle.image.specs.declared.tables.Table.the-variants.{AddressLookup}
 use Rattle.image.proofs.tables.table_at.Statement.{statement}

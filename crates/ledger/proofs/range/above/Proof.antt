@@ -1,6 +1,6 @@
 -- `ledger::range::above`: the top bit of the difference, or of what is taken away.
 use borrow.Author.Needs.{needs}
-use Rattle.ledger.specs.Above.{tells-above}
+use Rattle.ledger.specs.AboveLaws.{tells-above}
 use Rattle.ledger.proofs.range.above.Statement.{statement}
 use Rattle.ledger.proofs.range.above.Tie as tie
 

@@ -4,7 +4,7 @@ use Prim.Native.Nat.{ℕ, _*_}
 use native.Mathlib.Omega.{arith}
 use borrow.Author.Needs.{needs}
 use Rattle.laws.specs.Chain.{hit-lt, pass-lt, lt-of, of-le}
-use Rattle.image.specs.Sound.{held}
+use Rattle.image.specs.SoundLaws.{held}
 use Rattle.image.specs.declared.tables.Table.the-variants.{Policing}
 use Rattle.ledger.proofs.range.full.Statement.{statement}
 use Rattle.ledger.proofs.range.full.Tie as tie

@@ -1,7 +1,7 @@
 -- `ledger::range::meter_over`: its credit or its time.
 use native.Mathlib.Omega.{arith}
 use borrow.Author.Needs.{needs}
-use Rattle.ledger.specs.Above.{tells-either}
+use Rattle.ledger.specs.AboveLaws.{tells-either}
 use Rattle.ledger.proofs.range.meter_over.Statement.{statement}
 use Rattle.ledger.proofs.range.meter_over.Tie as tie
 

@@ -6,7 +6,8 @@ use borrow.Author.Needs.{needs}
 use Rattle.laws.specs.Scan.{some-below}
 use Rattle.image.specs.Layout.{imageIn}
 use Rattle.image.specs.declared.tables.Table.the-variants.{Policing}
-use Rattle.ledger.specs.Above.{Tells, tells-none, meterOff, meter-more, not-loaded, meters-end}
+use Rattle.ledger.specs.Above.{Tells, meterOff}
+use Rattle.ledger.specs.AboveLaws.{tells-none, meter-more, not-loaded, meters-end}
 use Rattle.ledger.proofs.range.meters_over.Statement.{statement}
 use Rattle.ledger.proofs.range.meters_over.Tie as tie
 

@@ -2,7 +2,7 @@
 use native.Mathlib.Omega.{arith}
 use borrow.Author.Needs.{needs}
 use Rattle.laws.specs.Chain.{chain}
-use Rattle.ledger.specs.Above.{as-asked}
+use Rattle.ledger.specs.AboveLaws.{as-asked}
 use Rattle.ledger.proofs.range.out_of_range.Statement.{statement}
 use Rattle.ledger.proofs.range.out_of_range.Tie as tie
 

@@ -4,7 +4,8 @@ use mathlib.Core.Bool.{false}
 use Prim.Native.Nat.{_-_, _≤_}
 use native.Mathlib.Omega.{arith}
 use borrow.Author.Needs.{needs}
-use Rattle.laws.specs.Scan.{some-below, some-none, some-not, some-found, some-end}
+use Rattle.laws.specs.Scan.{some-below}
+use Rattle.laws.specs.ScanLaws.{some-none, some-not, some-found, some-end}
 use Rattle.ledger.specs.Row.{frames, drops, octets, dropped, cell}
 use Rattle.ledger.specs.Range.{countsOff}
 use Rattle.ledger.proofs.range.tiles_off.Statement.{statement}

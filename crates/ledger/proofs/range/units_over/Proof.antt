@@ -7,7 +7,8 @@ use Rattle.laws.specs.Scan.{some-below}
 use Rattle.image.specs.Layout.{imageIn}
 use Rattle.fields.specs.Fields.{partSpc}
 use Rattle.ledger.specs.Row.{units, cell}
-use Rattle.ledger.specs.Above.{Tells, tells-none, tells-of, tells-more, tells-end}
+use Rattle.ledger.specs.Above.{Tells}
+use Rattle.ledger.specs.AboveLaws.{tells-none, tells-of, tells-more, tells-end}
 use Rattle.ledger.proofs.range.units_over.Statement.{statement}
 use Rattle.ledger.proofs.range.units_over.Tie as tie
 

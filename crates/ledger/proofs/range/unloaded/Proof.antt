@@ -1,6 +1,6 @@
 -- `ledger::range::unloaded`: 31, then 30.
 use borrow.Author.Needs.{needs}
-use Rattle.image.specs.Sound.{has-room}
+use Rattle.image.specs.SoundLaws.{has-room}
 use Rattle.laws.specs.Chain.{flags}
 use Rattle.ledger.specs.Range.{unloaded}
 use Rattle.ledger.proofs.range.unloaded.Statement.{statement}

@@ -9,11 +9,12 @@ use lib.Pow.{pow-pos}
 use borrow.Author.Needs.{needs}
 use borrow.Author.Tests.{eq-eqb, ne-eqb}
 use denote.Ref.{now}
-use Rattle.laws.specs.Scan.{first, first-none}
+use Rattle.laws.specs.Scan.{first}
+use Rattle.laws.specs.ScanLaws.{first-none}
 use Rattle.image.specs.Layout.{imageIn}
 use Rattle.fields.specs.Fields.{vlanid}
 use Rattle.lookup.specs.Vlan.{hasVlan}
-use Rattle.lookup.specs.Groups.{first-past, none-more, not-none}
+use Rattle.lookup.specs.GroupsLaws.{first-past, none-more, not-none}
 use Rattle.lookup.proofs.vlan.find.Statement.{statement}
 use Rattle.lookup.proofs.vlan.find.Tie as tie
 

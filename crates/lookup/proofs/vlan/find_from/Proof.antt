@@ -5,7 +5,8 @@ use native.Mathlib.Omega.{arith}
 use borrow.Author.Needs.{needs}
 use borrow.Author.Tests.{eq-eqb, ne-eqb}
 use denote.Ref.{now}
-use Rattle.laws.specs.Scan.{first, first-more, first-found, first-end}
+use Rattle.laws.specs.Scan.{first}
+use Rattle.laws.specs.ScanLaws.{first-more, first-found, first-end}
 use Rattle.image.specs.Layout.{imageIn, countOf}
 use Rattle.image.specs.declared.tables.Table.the-variants.{VlanLookup}
 use Rattle.lookup.specs.Vlan.{hasVlan}

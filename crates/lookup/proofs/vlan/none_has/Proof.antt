@@ -8,7 +8,8 @@ use lib.Dec.{eqb}
 use borrow.Author.Needs.{needs}
 use Rattle.laws.specs.Scan.{flag}
 use Rattle.image.specs.Layout.{imageIn}
-use Rattle.lookup.specs.Groups.{from, Clear, clear-none, clear-more, clear-end}
+use Rattle.lookup.specs.Groups.{from, Clear}
+use Rattle.lookup.specs.GroupsLaws.{clear-none, clear-more, clear-end}
 use Rattle.lookup.specs.Vlan.{hasVlan}
 use Rattle.lookup.proofs.vlan.none_has.Statement.{statement}
 use Rattle.lookup.proofs.vlan.none_has.Tie as tie

@@ -4,7 +4,7 @@ use borrow.Author.Needs.{needs}
 use mathlib.Core.Bool.{Bool, false, cond, not}
 use borrow.Author.Tests.{not-true, not-false}
 use Rattle.laws.specs.Chain.{hit, pass}
-use Rattle.image.specs.Sound.{within-limits}
+use Rattle.image.specs.SoundLaws.{within-limits}
 use Rattle.placing.proofs.refusal.damaged.Statement.{statement}
 use Rattle.placing.proofs.refusal.damaged.Tie as tie
 

@@ -1,6 +1,6 @@
 -- `refusal::write_refusal`: its tests in the definition's order. Where 30 is asked, 31's test has failed.
 use borrow.Author.Needs.{needs}
-use Rattle.image.specs.Sound.{has-room}
+use Rattle.image.specs.SoundLaws.{has-room}
 use Rattle.laws.specs.Chain.{flags}
 use Rattle.placing.specs.Refusal.{writeRefusal}
 use Rattle.placing.proofs.refusal.write_refusal.Statement.{statement}

@@ -5,7 +5,8 @@ use Prim.Native.Nat.{ℕ, _+_, _≤_}
 use native.Mathlib.Omega.{arith}
 use denote.Ref.{now}
 use Rattle.image.specs.Layout.{imageIn}
-use Rattle.plan.specs.EnterLaws.{Inside, is-kept-out, is-let-in}
+use Rattle.plan.specs.LetIn.{Inside}
+use Rattle.plan.specs.EnterLaws.{is-kept-out, is-let-in}
 use Rattle.plan.proofs.enter.by_place.Statement.{statement}
 use Rattle.plan.proofs.enter.by_place.Tie as tie
 

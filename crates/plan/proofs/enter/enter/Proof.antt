@@ -3,9 +3,11 @@ use mathlib.Core.Path.{sym, ap, subst, _∙_}
 use borrow.Author.Needs.{needs}
 use denote.Ref.{now}
 use Rattle.image.specs.Layout.{imageIn}
-use Rattle.frame.specs.Laws.{Whole, whole}
+use Rattle.frame.specs.Whole.{Whole}
+use Rattle.frame.specs.Laws.{whole}
 use Rattle.plan.specs.Enter.{byPlace, byIntake, enterOf}
-use Rattle.plan.specs.EnterLaws.{Inside, inside}
+use Rattle.plan.specs.LetIn.{Inside}
+use Rattle.plan.specs.EnterLaws.{inside}
 use Rattle.plan.proofs.enter.enter.Statement.{statement}
 use Rattle.plan.proofs.enter.enter.Tie as tie
 

@@ -3,7 +3,7 @@ use mathlib.Core.Path.{_≡_, sym, _∙_, ap}
 use mathlib.Core.Bool.{Bool, true, false, cond, not}
 use Prim.Native.Nat.{ℕ, _<_}
 use native.Mathlib.Omega.{arith}
-use Rattle.image.specs.Sound.{held}
+use Rattle.image.specs.SoundLaws.{held}
 use Rattle.image.specs.declared.tables.Table.the-variants.{VlanLookup}
 use Rattle.addresses.specs.Address.{holds}
 use Rattle.plan.proofs.enter.outsider.Statement.{statement}

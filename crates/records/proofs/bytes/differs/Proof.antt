@@ -6,7 +6,8 @@ use lib.ListN.{length, drop}
 use borrow.Author.Needs.{needs}
 use denote.Ref.{now}
 use Rattle.records.specs.Bytes.{differ}
-use Rattle.records.specs.ByteLaws.{differFrom, differ-start, differ-short, differ-all, differ-here, differ-more}
+use Rattle.records.specs.Differ.{differFrom}
+use Rattle.records.specs.ByteLaws.{differ-start, differ-short, differ-all, differ-here, differ-more}
 use Rattle.records.proofs.bytes.differs.Statement.{statement}
 use Rattle.records.proofs.bytes.differs.Tie as tie
 

@@ -1,6 +1,6 @@
 -- `fresh::fresh_ledger`: refused, or full.
 use Rattle.ledger.specs.Laws.{loaded-as}
-use Rattle.row.specs.Fresh.{not-fresh, is-fresh}
+use Rattle.row.specs.FreshLaws.{not-fresh, is-fresh}
 use Rattle.row.proofs.fresh.fresh_ledger.Statement.{statement}
 use Rattle.row.proofs.fresh.fresh_ledger.Tie as tie
 

@@ -7,7 +7,8 @@ use denote.Ref.{now}
 use Rattle.image.specs.Layout.{imageIn}
 use Rattle.image.specs.declared.tables.Table.the-variants.{Policing}
 use Rattle.ledger.specs.Row.{units, credit, start, many}
-use Rattle.row.specs.Fresh.{freshCell, freshOf, Filling, filling-none, partition-more, meters-on, meter-more, fresh-end}
+use Rattle.row.specs.Fresh.{freshCell, freshOf, Filling}
+use Rattle.row.specs.FreshLaws.{filling-none, partition-more, meters-on, meter-more, fresh-end}
 use Rattle.row.proofs.fresh.fresh_row.Statement.{statement}
 use Rattle.row.proofs.fresh.fresh_row.Tie as tie
 

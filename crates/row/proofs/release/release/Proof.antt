@@ -1,5 +1,5 @@
 -- `release::release`: refused with the row as it was, or one unit more.
-use Rattle.row.specs.Release.{has-room, not-released, is-released}
+use Rattle.row.specs.ReleaseLaws.{has-room, not-released, is-released}
 use Rattle.row.proofs.release.release.Statement.{statement}
 use Rattle.row.proofs.release.release.Tie as tie
 

@@ -1,0 +1,19 @@
+-- Exactly when, and the first: the pages of a whole load and of a frame, and that the entries' promises answer by them.
+pub mod First
+pub mod FirstLaws
+pub mod Decides
+pub mod DecidesLaws
+pub mod Rules
+pub mod RulesProved
+pub mod Ids
+pub mod IdsLaws
+pub mod Framing
+pub mod Load
+pub mod LoadLaws
+pub mod Steps
+pub mod StepTests
+pub mod StepsLaws
+pub mod StepsProved
+pub mod LoadProved
+pub mod Table
+pub mod TableProved

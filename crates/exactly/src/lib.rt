@@ -1,0 +1,1 @@
+// Exactly when, and the first: one page for a whole load's number, one for a frame's verdict. Theorems in specs/, and there is no code here.

@@ -1,0 +1,48 @@
+-- Each call by the promise below it, and that each promise permits one outcome.
+use mathlib.Core.Path.{_≡_, sym, _∙_, ap}
+use mathlib.Core.List.{List}
+use Prim.Native.Nat.{ℕ}
+use Rattle.ledger.specs.declared.Answer.{Answer}
+use Rattle.ledger.specs.Answers.{numberOf}
+use Rattle.ledger.specs.AnswersLaws.{numbered}
+use Rattle.ledger.specs.Range.{unloaded}
+use Rattle.row.specs.Fresh.{Freshened}
+use Rattle.row.specs.Release.{releaseRefusal, Released}
+use Rattle.settle.specs.declared.Verdict.{Verdict}
+use Rattle.judge.specs.Judge.{Judges}
+use Rattle.tile.specs.declared.shares.Asked.{Asked}
+use Rattle.tile.specs.Tiles.{Tiled}
+use Rattle.flat_answers.specs.declared.FlatVerdict.{FlatVerdict}
+use Rattle.flat_answers.specs.declared.FlatTile.{FlatTile}
+use Rattle.flat_answers.specs.Answers.{flatVerdict, flatTile}
+use Rattle.flat_frames.specs.Frames.{FreshensFlat, JudgesFlat, ReleasesFlat, TilesFlat}
+
+pub freshens : (buffer : List ℕ) (a : Answer) (r : ℕ) (after : List ℕ) → Freshened buffer a after → r ≡ numberOf a → FreshensFlat buffer r after
+freshens buffer a r after p e = record { number = e ∙ ap numberOf (p .answer) ∙ numbered (unloaded buffer); row = p .row }
+
+pub one-fresh : (buffer : List ℕ) (r s : ℕ) (a b : List ℕ) → FreshensFlat buffer r a → FreshensFlat buffer s b → (r ≡ s) × (a ≡ b)
+one-fresh buffer r s a b p q = (p .number ∙ sym (q .number), p .row ∙ sym (q .row))
+
+pub judges : (buffer g : List ℕ) (port time : ℕ) (frame : List ℕ) (v : Verdict) (r : FlatVerdict) (after : List ℕ) → Judges buffer g port time frame v after
+    → r ≡ flatVerdict v
+    → JudgesFlat buffer g port time frame r after
+judges buffer g port time frame v r after p e = record { verdict = e ∙ ap flatVerdict (p .verdict); row = p .row }
+
+pub one-judged : (buffer g : List ℕ) (port time : ℕ) (frame : List ℕ) (r s : FlatVerdict) (a b : List ℕ) → JudgesFlat buffer g port time frame r a
+    → JudgesFlat buffer g port time frame s b
+    → (r ≡ s) × (a ≡ b)
+one-judged buffer g port time frame r s a b p q = (p .verdict ∙ sym (q .verdict), p .row ∙ sym (q .row))
+
+pub releases : (buffer g : List ℕ) (partition : ℕ) (a : Answer) (r : ℕ) (after : List ℕ) → Released buffer g partition a after → r ≡ numberOf a
+    → ReleasesFlat buffer g partition r after
+releases buffer g partition a r after p e = record { number = e ∙ ap numberOf (p .answer) ∙ numbered (releaseRefusal buffer g partition); row = p .row }
+
+pub one-released : (buffer g : List ℕ) (partition r s : ℕ) (a b : List ℕ) → ReleasesFlat buffer g partition r a → ReleasesFlat buffer g partition s b
+    → (r ≡ s) × (a ≡ b)
+one-released buffer g partition r s a b p q = (p .number ∙ sym (q .number), p .row ∙ sym (q .row))
+
+pub tiles : (buffer g : List ℕ) (port : ℕ) (a : Asked) (r : FlatTile) → Tiled buffer g port a → r ≡ flatTile a → TilesFlat buffer g port r
+tiles buffer g port a r p e = record { tile = e ∙ ap flatTile (p .whole) }
+
+pub one-tile : (buffer g : List ℕ) (port : ℕ) (r s : FlatTile) → TilesFlat buffer g port r → TilesFlat buffer g port s → r ≡ s
+one-tile buffer g port r s p q = p .tile ∙ sym (q .tile)
