@@ -62,13 +62,13 @@ bytes-told-the-first-flat = load.bytes-told-the-first-flat
 
 -- ---- its tables: a loaded image gives back each table's entries, as many as its stream brought
 
-pub gives-back-the-count : {buffer words after : List ℕ} {answer : Answer} {lists : List (List ℕ)} → EndsWords buffer words answer after → answer ≡ Loaded
+pub gives-back-the-count : (buffer words : List ℕ) {after : List ℕ} {answer : Answer} {lists : List (List ℕ)} → EndsWords buffer words answer after → answer ≡ Loaded
     → framed words ≡ passed lists
     → (t : Table)
     → countOf (imageIn after) t * sizeOf t ≡ length (listOf lists t)
 gives-back-the-count = given.gives-back-the-count
 
-pub gives-back-each-entry : {buffer words after : List ℕ} {answer : Answer} {lists : List (List ℕ)} → EndsWords buffer words answer after → answer ≡ Loaded
+pub gives-back-each-entry : (buffer words : List ℕ) {after : List ℕ} {answer : Answer} {lists : List (List ℕ)} → EndsWords buffer words answer after → answer ≡ Loaded
     → framed words ≡ passed lists
     → (t : Table) (i : ℕ)
     → i * sizeOf t + sizeOf t ≤ length (listOf lists t)
