@@ -1,5 +1,5 @@
--- Each call by the promise below it, and that each promise permits one outcome.
-use mathlib.Core.Path.{_≡_, sym, _∙_, ap}
+-- Each call by the promise below it; that each promise permits one outcome; and that the numbers are what document 01 says.
+use mathlib.Core.Path.{_≡_, refl, sym, _∙_, ap}
 use mathlib.Core.List.{List}
 use Prim.Native.Nat.{ℕ}
 use Rattle.ledger.specs.declared.Answer.{Answer}
@@ -9,6 +9,11 @@ use Rattle.ledger.specs.Range.{unloaded}
 use Rattle.row.specs.Fresh.{Freshened}
 use Rattle.row.specs.Release.{releaseRefusal, Released}
 use Rattle.settle.specs.declared.Verdict.{Verdict}
+use Rattle.settle.specs.declared.Verdict.the-variants as verdicts
+use Rattle.judge.specs.Judge as verdict
+use Rattle.tile.specs.declared.shares.Tile.the-variants as shown
+use Rattle.tile.specs.declared.shares.Asked.the-variants as askeds
+use Rattle.tile.specs.Tiles as asked
 use Rattle.judge.specs.Judge.{Judges}
 use Rattle.tile.specs.declared.shares.Asked.{Asked}
 use Rattle.tile.specs.Tiles.{Tiled}
@@ -46,3 +51,15 @@ tiles buffer g port a r p e = record { tile = e ∙ ap flatTile (p .whole) }
 
 pub one-tile : (buffer g : List ℕ) (port : ℕ) (r s : FlatTile) → TilesFlat buffer g port r → TilesFlat buffer g port s → r ≡ s
 one-tile buffer g port r s p q = p .tile ∙ sym (q .tile)
+
+-- the kind and the number that C and Rust get are those that a verdict and a tile say in document 01's terms
+pub verdict-says : (v : Verdict) → (flatVerdict v .kind ≡ verdict.saidOf v .kind) × (flatVerdict v .number ≡ verdict.saidOf v .number)
+verdict-says (verdicts.Refused n) = (refl, refl)
+verdict-says (verdicts.Drop n) = (refl, refl)
+verdict-says (verdicts.Sent s) = (refl, refl)
+
+pub tile-says : (a : Asked) → (flatTile a .kind ≡ asked.saidOf a .kind) × (flatTile a .number ≡ asked.saidOf a .number)
+tile-says (askeds.Refused n) = (refl, refl)
+tile-says (askeds.Shown shown.NotLoaded) = (refl, refl)
+tile-says (askeds.Shown shown.NoFrames) = (refl, refl)
+tile-says (askeds.Shown (shown.Shares x y)) = (refl, refl)

@@ -53,7 +53,11 @@ toldIn spare Sum = spare
 toldIn spare Data = spare
 toldIn spare (Told n) = n
 
--- the place of a block's table; outside a block, the number that stood there, which nothing reads
+-- the number that stood there where the phase is the one before, 0 where it has moved
+abbrev pub kept : ℕ → ℕ → ℕ → ℕ
+kept before spare phase = cond (eqb before phase) spare 0
+
+-- the place of a block's table; outside a block, a number that nothing reads
 abbrev pub placeIn : ℕ → Phase → Table → ℕ
 placeIn spare Device t = spare
 placeIn spare Id t = spare
@@ -66,7 +70,7 @@ placeIn spare (Told n) t = spare
 abbrev pub numbersOf : List ℕ → Load → List ℕ
 numbersOf c l =
     joined (phaseNumber (l .phase)) (toldIn (high (getD c 0 0)) (l .phase))
-    ∷ joined (placeIn (low (getD c 1 0)) (l .phase) (l .table)) (high (getD c 1 0))
+    ∷ joined (placeIn (kept (low (getD c 0 0)) (low (getD c 1 0)) (phaseNumber (l .phase))) (l .phase) (l .table)) (high (getD c 1 0))
     ∷ l .placed
     ∷ l .due
     ∷ joined (l .first) (l .second)

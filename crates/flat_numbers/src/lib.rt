@@ -2,7 +2,7 @@
 // fields to a number but for the words placed and due, low half first: phase and told, table, placed, due, first and second, stream and block. The
 // upper half of the second number is no part of the state.
 // The phase is 0 for word 0, which is also a load not yet begun; 1, 2, 3 for a block's two header words and their checksum; 4 for its data
-// and their checksum; 5 once an answer has been told, which is `told`. The table is its place in the rows; outside phase 4 nothing reads or writes it.
+// and their checksum; 5 once an answer has been told, which is `told`. The table is its place in the rows; outside phase 4 nothing reads it.
 use image::tables;
 use image::tables::TABLES;
 use image::tables::Table;
@@ -10,7 +10,7 @@ use stream::Answer;
 use stream::Phase;
 ghost use mathlib.Core.Path.{_≡_};
 ghost use Prim.Native.Nat.{_<_};
-ghost use Rattle.flat_numbers.specs.Flat.{low, high, joined, phaseNumber, toldIn, placeIn, phaseOf, isLoad, numberOf, FreshLoad};
+ghost use Rattle.flat_numbers.specs.Flat.{low, high, joined, phaseNumber, toldIn, kept, placeIn, phaseOf, isLoad, numberOf, FreshLoad};
 
 // The number of "more", which document 01 gives none. No load tells it as its answer, and no load state has been told it.
 pub const MORE: u32 = 0xFFFF_FFFF;
@@ -77,6 +77,16 @@ pub fn told_in(spare: u32, phase: Phase) -> u32
         Phase::Data => spare,
         Phase::Told(n) => n,
     }
+}
+
+// `spare`, which stood there, where the phase has not moved, else 0.
+pub fn kept(before: u32, spare: u32, phase: u32) -> u32
+    ensures { λ r. ⌜ r ≡ kept before spare phase ⌝ }
+{
+    if before == phase {
+        return spare;
+    }
+    0
 }
 
 // The place of a block's table; outside a block, `spare`.

@@ -7,7 +7,7 @@ use lib.Seq.{sets}
 use Rattle.image.specs.declared.tables.Table.{Table}
 use Rattle.stream.specs.declared.Load.{Load}
 use Rattle.stream.specs.declared.Phase.{Phase}
-use Rattle.flat_numbers.specs.Flat.{low, high, joined, phaseNumber, toldIn, placeIn, phaseOf, tableIn, loadIn, storedIn}
+use Rattle.flat_numbers.specs.Flat.{low, high, joined, phaseNumber, toldIn, kept, placeIn, phaseOf, tableIn, loadIn, storedIn}
 
 -- ---- a state from its parts
 pub load-as : (c : List ℕ) (p : Phase) (t : Table) (told first second stream block : ℕ) → told ≡ high (getD c 0 0) → p ≡ phaseOf (low (getD c 0 0)) told
@@ -20,12 +20,15 @@ pub load-as : (c : List ℕ) (p : Phase) (t : Table) (told first second stream b
 load-as c p t told first second stream block a b d e f g h = cc
 
 -- ---- and its numbers from theirs
-pub stored-as : (c : List ℕ) (l : Load) (told stood spare phase table a b d e : ℕ) → told ≡ high (getD c 0 0) → stood ≡ low (getD c 1 0) → spare ≡ high (getD c 1 0)
+pub stored-as : (c : List ℕ) (l : Load) (told before stood kept′ spare phase table a b d e : ℕ) → told ≡ high (getD c 0 0) → before ≡ low (getD c 0 0)
+    → stood ≡ low (getD c 1 0)
+    → spare ≡ high (getD c 1 0)
     → phase ≡ phaseNumber (l .phase)
-    → table ≡ placeIn stood (l .phase) (l .table)
+    → kept′ ≡ kept before stood phase
+    → table ≡ placeIn kept′ (l .phase) (l .table)
     → a ≡ joined phase (toldIn told (l .phase))
     → b ≡ joined table spare
     → d ≡ joined (l .first) (l .second)
     → e ≡ joined (l .stream) (l .block)
     → sets c 0 (a ∷ b ∷ l .placed ∷ l .due ∷ d ∷ e ∷ []) ≡ storedIn c l
-stored-as c l told stood spare phase table a b d e g f h i j k m n o = cc
+stored-as c l told before stood kept′ spare phase table a b d e g p f h i q j k m n o = cc

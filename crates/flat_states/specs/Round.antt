@@ -4,7 +4,7 @@ use mathlib.Core.Bool.{Bool, true, false, cond, not, true≢false}
 use mathlib.Core.List.{List, [], _∷_}
 use Prim.Native.Nat.{ℕ, zero, suc, _<_, _≤_}
 use native.Mathlib.Omega.{arith}
-use lib.Dec.{ltb, eqb}
+use lib.Dec.{ltb, eqb, lit<}
 use lib.ListN.{length, getD, set, drop}
 use lib.Seq.{sets, sets-eq, set-getD}
 use borrow.Author.Tests.{ltb-true, ltb-false, lt-ltb, eqb-false, ne-eqb, not-true}
@@ -14,7 +14,7 @@ use Rattle.image.specs.declared.tables.Table.{Table}
 use Rattle.stream.specs.declared.Phase.{Phase}
 use Rattle.stream.specs.declared.Phase.the-variants.{Device, Id, Length, Sum, Data, Told}
 use Rattle.stream.specs.declared.Load.{Load}
-use Rattle.flat_numbers.specs.Flat.{low, high, joined, phaseNumber, toldIn, placeIn, phaseOf, tableOf, tableIn, isState, loadIn, isLoad, numbersOf, storedIn}
+use Rattle.flat_numbers.specs.Flat.{low, high, joined, phaseNumber, toldIn, kept, placeIn, phaseOf, tableOf, tableIn, isState, loadIn, isLoad, numbersOf, storedIn}
 use Rattle.flat_states.specs.Stored.{Outside, Storable}
 
 -- ---- halves
@@ -53,14 +53,15 @@ in-range a told b e = by (ltb 5 a) refl e
     by true q f = absurd (true≢false (sym f))
     by false q f = ltb-false 5 a q
 
--- the table's number is kept: in the data phase it is a row's place, in any other nothing writes it
-place-kept : (a told b spare : ℕ) → isState a told b ≡ true → joined (placeIn b (phaseOf a told) (tableIn (phaseOf a told) b)) spare ≡ joined b spare
+-- the table's number is kept: in the data phase it is a row's place, in any other the phase has not moved
+place-kept : (a told b spare : ℕ) → isState a told b ≡ true → joined (placeIn (kept a b (phaseNumber (phaseOf a told))) (phaseOf a told) (tableIn (phaseOf a told) b)) spare ≡ joined b spare
 place-kept zero told b spare e = refl
 place-kept (suc zero) told b spare e = refl
 place-kept (suc (suc zero)) told b spare e = refl
 place-kept (suc (suc (suc zero))) told b spare e = refl
 place-kept (suc (suc (suc (suc zero)))) told b spare e = table-kept b spare (ltb-true b tableCount e)
-place-kept (suc (suc (suc (suc (suc n))))) told b spare e = refl
+place-kept (suc (suc (suc (suc (suc zero))))) told b spare e = refl
+place-kept (suc (suc (suc (suc (suc (suc n)))))) told b spare e = let h = in-range (suc (suc (suc (suc (suc (suc n)))))) told b e in absurd (omega arith)
 
 pub numbers-back : (c : List ℕ) → isLoad c ≡ true → storedIn c (loadIn c) ≡ c
 numbers-back c e =
@@ -95,6 +96,13 @@ table-back spare Sum t o = sym o
 table-back spare Data t o = placed t .back
 table-back spare (Told n) t o = sym o
 
+kept-fits : (before spare phase : ℕ) → spare < 4294967296 → kept before spare phase < 4294967296
+kept-fits before spare phase h = go (eqb before phase)
+  where
+    go : (b : Bool) → cond b spare 0 < 4294967296
+    go true = h
+    go false = lit< tt
+
 place-fits : (spare : ℕ) (p : Phase) (t : Table) → spare < 4294967296 → placeIn spare p t < 4294967296
 place-fits spare Device t h = h
 place-fits spare Id t h = h
@@ -121,16 +129,19 @@ state-passes Data t told b h = lt-ltb (indexOf t) tableCount (placed t .inside)
 state-passes (Told n) t told b h = ap not (ne-eqb n 0xFFFFFFFF h)
 
 module _ (c : List ℕ) (l : Load) (six : length c ≡ 6) where
+  abbrev stood : ℕ
+  stood = kept (low (getD c 0 0)) (low (getD c 1 0)) (phaseNumber (l .phase))
+
   phase-small : phaseNumber (l .phase) < 4294967296
   phase-small = omega (arith, phase-fits (l .phase))
 
-  place-small : placeIn (low (getD c 1 0)) (l .phase) (l .table) < 4294967296
-  place-small = place-fits (low (getD c 1 0)) (l .phase) (l .table) (omega arith)
+  place-small : placeIn stood (l .phase) (l .table) < 4294967296
+  place-small = place-fits stood (l .phase) (l .table) (kept-fits (low (getD c 0 0)) (low (getD c 1 0)) (phaseNumber (l .phase)) (omega arith))
 
   pub state-back : Storable l → loadIn (storedIn c l) ≡ l
   state-back fits =
       let p : phaseNumber (l .phase) < 4294967296 = phase-small in
-      let t : placeIn (low (getD c 1 0)) (l .phase) (l .table) < 4294967296 = place-small in
+      let t : placeIn stood (l .phase) (l .table) < 4294967296 = place-small in
       let f : l .first < 4294967296 = fits .first in
       let s : l .stream < 4294967296 = fits .stream in
       let o : Outside (l .phase) (l .table) = fits .outside in
@@ -139,11 +150,11 @@ module _ (c : List ℕ) (l : Load) (six : length c ≡ 6) where
   pub is-state : (toldIn 0 (l .phase) ≡ 0xFFFFFFFF → ⊥) → isLoad (storedIn c l) ≡ true
   is-state h =
       let p : phaseNumber (l .phase) < 4294967296 = phase-small in
-      let t : placeIn (low (getD c 1 0)) (l .phase) (l .table) < 4294967296 = place-small in
+      let t : placeIn stood (l .phase) (l .table) < 4294967296 = place-small in
       let as-numbers : isLoad (numbersOf c l)
-      ≡ isState (phaseNumber (l .phase)) (toldIn (high (getD c 0 0)) (l .phase)) (placeIn (low (getD c 1 0)) (l .phase) (l .table))
+      ≡ isState (phaseNumber (l .phase)) (toldIn (high (getD c 0 0)) (l .phase)) (placeIn stood (l .phase) (l .table))
       = simp (low-joined, high-joined) in
-      ap isLoad (sets-eq (numbersOf c l) c 0 (omega arith)) ∙ as-numbers ∙ state-passes (l .phase) (l .table) (high (getD c 0 0)) (low (getD c 1 0)) h
+      ap isLoad (sets-eq (numbersOf c l) c 0 (omega arith)) ∙ as-numbers ∙ state-passes (l .phase) (l .table) (high (getD c 0 0)) stood h
 
 -- numbers that are a state's are those of a state that they hold
 of-phase : (phase told place : ℕ) → isState phase told place ≡ true → (Outside (phaseOf phase told) (tableIn (phaseOf phase told) place)) × (toldIn 0 (phaseOf phase told) ≡ 0xFFFFFFFF → ⊥)

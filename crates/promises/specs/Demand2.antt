@@ -7,6 +7,7 @@ use Prim.Native.Nat.{ℕ, _+_, _*_, _<_, _≤_}
 use lib.ListN.{length, take, drop}
 use Rattle.image.specs.Rows.{sizeOf}
 use Rattle.image.specs.Layout.{imageIn, imageOf, listOf, countOf, entryOf}
+use Rattle.image.specs.Loaded.{tooShort}
 use Rattle.image.specs.declared.tables.Table.{Table}
 use Rattle.fields.specs.Fields.{partSpc}
 use Rattle.stream.specs.declared.Answer.{Answer}
@@ -24,6 +25,7 @@ use Rattle.judge.specs.Judge.{Judges}
 use Rattle.tile.specs.declared.shares.Asked.{Asked}
 use Rattle.kept.specs.History.{Event, after}
 use Rattle.kept.specs.HistoryLaws.{never-39}
+use Rattle.records.specs.OfK.{listOfK}
 use Rattle.config_k.specs.Stream.{K}
 use Rattle.config_k.specs.Tables.{kTables}
 use Rattle.config_k.specs.Loads.{k-loaded}
@@ -45,6 +47,9 @@ use Rattle.nights.specs.Units.{doneOf, doneFlat, taken, returned}
 use Rattle.nights.specs.UnitsProved as parts
 use Rattle.nights.specs.Meters.{fromNine, fromNineFlat, Unmoved, Metered}
 use Rattle.nights.specs.MetersProved as meters
+use Rattle.night_k.specs.List.{eventsIn}
+use Rattle.night_k.specs.Output.{OutputOf, OutputFlat}
+use Rattle.night_k.specs.NightProved as whole
 
 -- ---- "A stream is refused exactly when a rule there is broken, and with the first one broken": the load's page, framing and rules as one
 
@@ -147,3 +152,17 @@ night-shows-the-sums-flat = sums.night-shows-the-sums-flat
 -- a ledger that only our calls touched is never refused with 39
 pub own-ledger-never-39 : (buffer : List ℕ) (es : List Event) → outOfRange (imageIn buffer) (after buffer (freshOf (imageIn buffer)) es) ≡ false
 own-ledger-never-39 = never-39
+
+-- ---- the night of K, whole: whatever a permitted load of K's stream leaves, and every permitted night of its list under it, is document 01's output
+
+pub night-of-K : (before : List ℕ) → tooShort before ≡ false → {r : Answer} {after : List ℕ} → EndsWords before K r after → {first : ledger.Answer} {g z : List ℕ}
+    {said : List (Said Verdict ledger.Answer)} {tile : ℕ → Asked}
+    → NightOf after (eventsIn listOfK) first g said z tile
+    → (r ≡ Loaded) × OutputOf first said z tile
+night-of-K = whole.night-of-K
+
+pub night-of-K-flat : (before : List ℕ) → tooShort before ≡ false → {r : ℕ} {after : List ℕ} → LoadsWords before K r after → {first : ℕ} {g z : List ℕ}
+    {said : List (Said FlatVerdict ℕ)} {tile : ℕ → FlatTile}
+    → NightFlat after (eventsIn listOfK) first g said z tile
+    → (r ≡ 0) × OutputFlat first said z tile
+night-of-K-flat = whole.night-of-K-flat

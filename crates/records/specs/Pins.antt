@@ -5,6 +5,7 @@ use Prim.Native.Nat.{ℕ}
 use lib.ListN.{replicate}
 use Rattle.records.specs.Bytes.{big, differ}
 use Rattle.records.specs.List.{version, shut, frame, release, end, refused, mark, versionOne, firstPlace, openingOf, kindOf, frameAt, releaseAt, standsAt}
+use Rattle.records.specs.OfK.{listOfK}
 use Rattle.records.specs.Walk.{walk, walkFor}
 
 -- mark and version, then these bytes
@@ -90,13 +91,7 @@ past-end : standsAt (opened []) 18446744073709551615 ≡ end
 unfolding openingOf big differ standsAt
 past-end = refl
 
--- "untagged broadcasts of 60 bytes on port 0 at 10 and 20, release of 0, then 59 bytes on port 1 at 30"
-sent : ℕ → ℕ → ℕ → List ℕ
-sent port time count = 1 ∷ port ∷ replicate 7 0 ++ time ∷ 0 ∷ count ∷ replicate count 0xFF
-
-listOfK : List ℕ
-listOfK = opened (sent 0 10 60 ++ sent 0 20 60 ++ 2 ∷ 0 ∷ sent 1 30 59)
-
-records-of-K : walk listOfK firstPlace ≡ frame 0 10 17 60 77 ∷ frame 0 20 89 60 149 ∷ release 0 151 ∷ frame 1 30 163 59 222 ∷ end ∷ []
-unfolding openingOf big differ kindOf frameAt releaseAt standsAt walkFor sent listOfK
+-- K's list has its four records and its end: no byte of it is refused
+pub records-of-K : walk listOfK firstPlace ≡ frame 0 10 17 60 77 ∷ frame 0 20 89 60 149 ∷ release 0 151 ∷ frame 1 30 163 59 222 ∷ end ∷ []
+unfolding openingOf big differ kindOf frameAt releaseAt standsAt walkFor listOfK
 records-of-K = refl

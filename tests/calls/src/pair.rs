@@ -4,7 +4,7 @@ use cases::rng::Rng;
 use reference::image::IMAGE_WORDS;
 use reference::load::{self, LoadAnswer, LoadState};
 
-use crate::states::{is_state, meaning, number_of, state_of, told_and_table, told_with, TOLD};
+use crate::states::{answered, is_state, meaning, number_of, state_of, told_and_table, TOLD};
 use crate::tally::{same, same_words, Answer, Tally};
 use tailbow::raw::{self as entries, FlatLoad};
 
@@ -78,6 +78,17 @@ pub fn fresh_load(rng: &mut Rng, tally: &mut Tally) {
     entries::fresh_load(lent.load());
     let compared = same("a fresh load", lent, Lent([before, 0, 0, 0, 0, 0, 0, behind]));
     tally.call("fresh_load", Answer::Told("done"), compared);
+}
+
+/// The six numbers as they lie behind a stream's writes of this length, from a fresh load on.
+pub fn numbers_behind(buffer: &[u32], words: &[u32], length: usize) -> [u64; 6] {
+    let (mut image, mut lent) = (buffer.to_vec(), Lent([u64::MAX; 8]));
+    entries::fresh_load(lent.load());
+    for write in words.chunks(length) {
+        entries::write(&mut image, lent.load(), write);
+    }
+    let [_, numbers @ .., _] = lent.0;
+    numbers
 }
 
 /// A load under way in both.
@@ -158,15 +169,14 @@ impl Pair {
         self.as_found(flat, buffer, answer)
     }
 
-    /// A refused call and a repeated answer leave every number and word; a new answer leaves no other trace, and the table's number.
+    /// A refused call and a repeated answer leave every number and word; a new answer leaves no other trace.
     fn as_found(&self, flat: FlatLoad, buffer: &[u32], answer: u32) -> Result<(), String> {
         if flat.phase == TOLD || (30..=32).contains(&answer) {
             same("numbers as found", self.flat, flat)?;
             return same_words("buffer as found", &self.ours, buffer);
         }
         if self.flat.phase == TOLD {
-            let expected = told_with(answer, flat.table);
-            return same("numbers after an answer", self.flat, expected);
+            return same("numbers after an answer", self.flat, answered(answer));
         }
         Ok(())
     }

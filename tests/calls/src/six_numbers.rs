@@ -1,5 +1,5 @@
-//! Named cases of the six numbers in which a load state is lent (D62): what is no load state, what is not read, and what a write leaves
-//! as it stood. Answers and numbers stand here by hand; the second program is asked beside them, as at every write.
+//! Named cases of the six numbers in which a load state is lent (D62): what is no load state, what is not read, what a write leaves as it
+//! stood and what it makes 0. Answers and numbers stand here by hand; the second program is asked beside them, as at every write.
 
 use cases::build::not_carried;
 use reference::crc;
@@ -10,14 +10,14 @@ use reference::stream::{plain_stream, stream_of, Block, End, DEVICE_ID};
 use reference::tables::{Table, ROWS};
 use tailbow::raw::{FlatLoad, MORE};
 
-use crate::pair::Pair;
+use crate::pair::{numbers_behind, Pair};
 use crate::states::{DATA, FRESH, NO_PHASES, NO_TABLES, TOLD};
 use crate::tally::{same, same_words, Tally};
 
 /// A case; the buffer holds any words, so every count in it is far above its limit.
 type Case = fn(&mut Tally, &str, &[u32]);
 
-const CASES: [(&str, Case); 10] = [
+const CASES: [(&str, Case); 12] = [
     ("a_phase_above_5", a_phase_above_5),
     ("more_was_never_told", more_was_never_told),
     ("any_other_number_may_have_been_told", any_other_number_may_have_been_told),
@@ -25,8 +25,10 @@ const CASES: [(&str, Case); 10] = [
     ("any_table_outside_a_block", any_table_outside_a_block),
     ("a_first_write_is_never_30", a_first_write_is_never_30),
     ("told_and_table_behind_every_write", told_and_table_behind_every_write),
+    ("the_table_where_the_phase_stays", the_table_where_the_phase_stays),
     ("the_table_behind_an_answer", the_table_behind_an_answer),
     ("the_table_behind_a_load", the_table_behind_a_load),
+    ("no_trace_of_the_cutting", no_trace_of_the_cutting),
     ("told_and_table_behind_a_refused_write", told_and_table_behind_a_refused_write),
 ];
 
@@ -73,6 +75,20 @@ const BEHIND: [(u32, Option<u32>); WORDS + 1] = [
     (2, None),
     (3, None),
     (TOLD, None),
+];
+
+/// Every write of its words that ends outside a block in the phase in which it began: that phase, and from which place to which. It goes
+/// through one block or through both.
+const STAYS: [(u32, usize, usize); 9] = [
+    (1, 1, 6),
+    (1, 1, 11),
+    (1, 6, 11),
+    (2, 2, 7),
+    (2, 2, 12),
+    (2, 7, 12),
+    (3, 3, 8),
+    (3, 3, 13),
+    (3, 8, 13),
 ];
 
 /// A load behind so many words of the stream.
@@ -224,7 +240,7 @@ fn a_tables_place_in_a_block(tally: &mut Tally, name: &str, buffer: &[u32]) {
             tally.result(same(name, pair.ours[start_of(row.table)], 0x1234_5678));
             let mut pair = sound.clone();
             pair.put_state(FlatLoad { table, ..block });
-            held(tally, name, &mut pair, &[crc::finish(register)], [MORE, 1, told, table]);
+            held(tally, name, &mut pair, &[crc::finish(register)], [MORE, 1, told, 0]);
         }
         for table in NO_TABLES {
             no_state(tally, name, &sound, FlatLoad { table, ..with_data });
@@ -234,7 +250,8 @@ fn a_tables_place_in_a_block(tally: &mut Tally, name: &str, buffer: &[u32]) {
     }
 }
 
-/// In any other phase every number is let by: a first write, each word of a header and of the end, and a told answer go on.
+/// In any other phase every number is let by: a first write, each word of a header and of the end, and a told answer go on. A word moves
+/// the phase there, so that it leaves 0 or enters a block; a told answer leaves the number.
 fn any_table_outside_a_block(tally: &mut Tally, name: &str, buffer: &[u32]) {
     let stream = stream();
     for place in (0..=WORDS).filter(|&place| BEHIND[place].1.is_none()) {
@@ -247,13 +264,14 @@ fn any_table_outside_a_block(tally: &mut Tally, name: &str, buffer: &[u32]) {
             }
             let (phase, entered) = BEHIND[place + 1];
             let (answer, told) = if place + 1 == WORDS { (20, 20) } else { (MORE, 0) };
-            let expected = [answer, phase, told, entered.unwrap_or(table)];
+            let expected = [answer, phase, told, entered.unwrap_or(0)];
             held(tally, name, &mut pair, &stream[place..=place], expected);
         }
     }
 }
 
-/// Whatever the other numbers are and whatever the image holds.
+/// Whatever the other numbers are and whatever the image holds. Refused, it leaves them; else the phase moves, and the table is 0 or that
+/// of the block in which it ends.
 fn a_first_write_is_never_30(tally: &mut Tally, name: &str, buffer: &[u32]) {
     let stream = stream();
     let numbers = TABLES.into_iter().chain([MORE - 1, 1 << 31]);
@@ -268,27 +286,44 @@ fn a_first_write_is_never_30(tally: &mut Tally, name: &str, buffer: &[u32]) {
         left(tally, name, &mut short, &[], 31);
         for (words, (phase, entered)) in BEHIND.into_iter().enumerate().skip(1) {
             let (answer, told) = if words == WORDS { (20, 20) } else { (MORE, number) };
-            let expected = [answer, phase, told, entered.unwrap_or(number)];
+            let expected = [answer, phase, told, entered.unwrap_or(0)];
             held(tally, name, &mut sound.clone(), &stream[..words], expected);
         }
-        held(tally, name, &mut sound.clone(), &[DEVICE_ID ^ 1], [1, TOLD, 1, number]);
+        held(tally, name, &mut sound.clone(), &[DEVICE_ID ^ 1], [1, TOLD, 1, 0]);
     }
 }
 
 /// Every write from one place of the stream to another: it goes on in a header, enters a block, goes on in it, leaves it, goes through one
-/// or two, and comes from one into the next. The table is that of the block in which it ends, else the one that stood before the write.
+/// or two, and comes from one into the next. The table is that of the block in which it ends; else the one that stood before the write
+/// where the phase stays, and 0 where it moves.
 fn told_and_table_behind_every_write(tally: &mut Tally, name: &str, buffer: &[u32]) {
     let stream = stream();
     for from in 0..WORDS {
         let sound = begun(tally, name, buffer, from);
         for (told, table) in [(0, 0), (MORE, MANY), (MORE - 1, u32::MAX), (30, POLICING)] {
-            let before = BEHIND[from].1.unwrap_or(table);
             for (to, (phase, entered)) in BEHIND.into_iter().enumerate().skip(from + 1) {
                 let (answer, told_after) = if to == WORDS { (20, 20) } else { (MORE, told) };
-                let expected = [answer, phase, told_after, entered.unwrap_or(before)];
+                let outside = if STAYS.contains(&(phase, from, to)) { table } else { 0 };
+                let expected = [answer, phase, told_after, entered.unwrap_or(outside)];
                 let mut pair = with(&sound, told, table);
                 held(tally, name, &mut pair, &stream[from..to], expected);
             }
+        }
+    }
+}
+
+/// Every number stays through whole blocks, a table's or not, whichever table they are of. The next word moves the phase.
+fn the_table_where_the_phase_stays(tally: &mut Tally, name: &str, buffer: &[u32]) {
+    let stream = stream();
+    for (phase, from, to) in STAYS {
+        let sound = begun(tally, name, buffer, from);
+        for table in (0..MANY).chain(NO_TABLES) {
+            let mut pair = with(&sound, 77, table);
+            held(tally, name, &mut pair, &stream[from..to], [MORE, phase, 77, table]);
+            let (phase, entered) = BEHIND[to + 1];
+            let (answer, told) = if to + 1 == WORDS { (20, 20) } else { (MORE, 77) };
+            let expected = [answer, phase, told, entered.unwrap_or(0)];
+            held(tally, name, &mut pair, &stream[to..=to], expected);
         }
     }
 }
@@ -305,7 +340,7 @@ fn refused_header(number: u32) -> [u32; 3] {
     [first, second, crc::of_words(&[first, second]) ^ u32::from(number == 2)]
 }
 
-/// An answer leaves its number and the table as it stood, and 0 in every other number. It is then repeated.
+/// An answer leaves its phase and its number, and 0 in every other number, whatever the table was. It is then repeated.
 fn the_table_behind_an_answer(tally: &mut Tally, name: &str, buffer: &[u32]) {
     let stream = stream();
     let damaged = |from: usize, to: usize| {
@@ -313,38 +348,37 @@ fn the_table_behind_an_answer(tally: &mut Tally, name: &str, buffer: &[u32]) {
         words[to - from - 1] ^= 1;
         words
     };
-    // The place, the words, the number, and the table where the write begins in a block.
+    // The place, which may be in a block, the words, and the number.
     let mut writes = vec![
-        (0, damaged(0, 1), 1, None),
-        (0, damaged(0, 6), 7, None),
-        (1, damaged(1, 6), 7, None),
-        (3, damaged(3, 4), 2, None),
-        (3, damaged(3, 6), 7, None),
-        (4, damaged(4, 6), 7, Some(PARAMETERS)),
-        (5, damaged(5, 6), 7, Some(PARAMETERS)),
-        (4, damaged(4, 9), 2, Some(PARAMETERS)),
-        (4, damaged(4, 11), 7, Some(PARAMETERS)),
-        (9, damaged(9, 11), 7, Some(PORTS)),
-        (10, damaged(10, 14), 8, Some(PORTS)),
-        (13, damaged(13, 14), 8, None),
-        (4, stream[4..].to_vec(), 20, Some(PARAMETERS)),
-        (10, stream[10..].to_vec(), 20, Some(PORTS)),
-        (13, stream[13..].to_vec(), 20, None),
+        (0, damaged(0, 1), 1),
+        (0, damaged(0, 6), 7),
+        (1, damaged(1, 6), 7),
+        (3, damaged(3, 4), 2),
+        (3, damaged(3, 6), 7),
+        (4, damaged(4, 6), 7),
+        (5, damaged(5, 6), 7),
+        (4, damaged(4, 9), 2),
+        (4, damaged(4, 11), 7),
+        (9, damaged(9, 11), 7),
+        (10, damaged(10, 14), 8),
+        (13, damaged(13, 14), 8),
+        (4, stream[4..].to_vec(), 20),
+        (10, stream[10..].to_vec(), 20),
+        (13, stream[13..].to_vec(), 20),
     ];
     for number in 2..=6 {
         let header = refused_header(number);
-        writes.push((1, header.to_vec(), number, None));
-        writes.push((5, [&stream[5..6], &header].concat(), number, Some(PARAMETERS)));
+        writes.push((1, header.to_vec(), number));
+        writes.push((5, [&stream[5..6], &header].concat(), number));
     }
-    for (place, mut words, number, inside) in writes {
+    for (place, mut words, number) in writes {
         let sound = begun(tally, name, buffer, place);
         // Words behind an answer are ignored.
         words.push(DEVICE_ID);
         for table in TABLES {
-            let table = inside.unwrap_or(table);
             let mut pair = with(&sound, MORE, table);
-            held(tally, name, &mut pair, &words, [number, TOLD, number, table]);
-            let expected = FlatLoad { phase: 5, told: number, table, ..FlatLoad::default() };
+            held(tally, name, &mut pair, &words, [number, TOLD, number, 0]);
+            let expected = FlatLoad { phase: 5, told: number, ..FlatLoad::default() };
             tally.result(same(name, pair.flat, expected));
             left(tally, name, &mut pair, &stream, number);
         }
@@ -357,17 +391,38 @@ fn the_table_behind_a_load(tally: &mut Tally, name: &str, buffer: &[u32]) {
     let end = words.len();
     let mut pair = Pair::fresh(buffer);
     held(tally, name, &mut pair, &words[..64], [MORE, DATA, 0, POLICING]);
-    held(tally, name, &mut pair, &words[64..95], [MORE, 1, 0, POLICING]);
-    held(tally, name, &mut pair, &words[95..97], [MORE, 3, 0, POLICING]);
+    held(tally, name, &mut pair, &words[64..95], [MORE, 1, 0, 0]);
+    held(tally, name, &mut pair, &words[95..97], [MORE, 3, 0, 0]);
     held(tally, name, &mut pair, &words[97..98], [MORE, DATA, 0, VLANS]);
     for rest in words[98..end - 5].chunks(64) {
         pair.write(tally, name, rest);
     }
     let mut inside = pair.clone();
-    held(tally, name, &mut inside, &words[end - 5..], [0, TOLD, 0, PORTS]);
-    held(tally, name, &mut pair, &words[end - 5..end - 3], [MORE, 1, 0, PORTS]);
+    tally.result(same(name, (inside.flat.phase, inside.flat.table), (DATA, PORTS)));
+    held(tally, name, &mut inside, &words[end - 5..], [0, TOLD, 0, 0]);
+    held(tally, name, &mut pair, &words[end - 5..end - 3], [MORE, 1, 0, 0]);
     for table in TABLES {
-        held(tally, name, &mut with(&pair, MORE, table), &words[end - 3..], [0, TOLD, 0, table]);
+        held(tally, name, &mut with(&pair, MORE, table), &words[end - 3..], [0, TOLD, 0, 0]);
+    }
+}
+
+/// K from a fresh load, in writes of 1, 64, 5 and 7 words, whose last begins in phase 3, 2, 4 and 1: the same six numbers, phase 5 and
+/// answer 0 in the first of them and 0 in all others.
+fn no_trace_of_the_cutting(tally: &mut Tally, name: &str, buffer: &[u32]) {
+    let words = plain_stream(&k::lists());
+    for (length, last) in [(1, 3), (64, 2), (5, DATA), (7, 1)] {
+        let mut pair = Pair::fresh(buffer);
+        let (mut answer, mut phase) = (MORE, FRESH);
+        for write in words.chunks(length) {
+            tally.result(same(name, answer, MORE));
+            phase = pair.flat.phase;
+            answer = pair.write(tally, name, write);
+        }
+        tally.result(same(name, (answer, phase), (0, last)));
+        let expected = FlatLoad { phase: 5, told: 0, ..FlatLoad::default() };
+        tally.result(same(name, pair.flat, expected));
+        let numbers = numbers_behind(buffer, &words, length);
+        tally.result(same(name, numbers, [5, 0, 0, 0, 0, 0]));
     }
 }
 

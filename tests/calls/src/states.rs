@@ -91,18 +91,36 @@ pub fn meaning(state: &LoadState) -> LoadState {
     }
 }
 
-/// The told answer and the table that stand in the numbers after a write that came to this state: each is written where that state has
-/// it, the answer in the last phase and the table in the data phase, and stays as it stood before the write everywhere else.
+/// The number of a state's phase.
+fn phase_of(state: &LoadState) -> u32 {
+    if state.answer.is_some() {
+        return TOLD;
+    }
+    match state.phase {
+        Phase::DeviceId => FRESH,
+        Phase::BlockId => 1,
+        Phase::Length => 2,
+        Phase::HeaderChecksum => 3,
+        Phase::Data | Phase::DataChecksum => DATA,
+    }
+}
+
+/// The told answer and the table that stand in the numbers after a write that came to this state. Each is written where that state has it,
+/// the answer in the last phase and the table in the data phase. Everywhere else the told answer stays as it stood before the write; the
+/// table stays where the phase is the one before the write, and is 0 where the phase has moved (D62).
 pub fn told_and_table(before: &FlatLoad, after: &LoadState) -> (u32, u32) {
     let told = after.answer.map_or(before.told, number_of);
-    let in_a_block = meaning(after).phase == Phase::Data;
-    let table = if in_a_block { after.table.place() as u32 } else { before.table };
+    let table = match phase_of(after) {
+        DATA => after.table.place() as u32,
+        phase if phase == before.phase => before.table,
+        _ => 0,
+    };
     (told, table)
 }
 
-/// The numbers after an answer: all 0 but for the answer and the table, which stays as it stood.
-pub fn told_with(number: u32, table: u32) -> FlatLoad {
-    FlatLoad { phase: TOLD, told: number, table, ..FlatLoad::default() }
+/// The numbers after an answer: all 0 but for the phase and the answer.
+pub fn answered(number: u32) -> FlatLoad {
+    FlatLoad { phase: TOLD, told: number, ..FlatLoad::default() }
 }
 
 /// A fresh load among any numbers: a first write reads the phase and nothing else.

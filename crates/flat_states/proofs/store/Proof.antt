@@ -14,11 +14,14 @@ store-spec =
     (λ c. search needs)
     (λ c κs. search needs)
     (λ c κs. search needs)
-    (λ c. search needs)
-    (λ c κs. search needs)
     (λ c κs. search needs)
     (λ c. search needs)
     (λ c κs. search needs)
+    (λ c. search needs)
+    (λ c κs. search needs)
+    (λ c κs. search needs)
+    (λ c κs. search needs)
+    (λ c. search needs)
     (λ c κs. search needs)
     (λ c κs. search needs)
     (λ c. search needs)
@@ -31,13 +34,16 @@ store-spec =
     (λ c κs. search needs)
     (λ c. search needs)
     (λ c.
-    let p = c .before .before .before .before in
-    let s = p .before .before .before in
-    let t = s .before .before .before in
-    stored-as (now (t .before .before .before .args .numbers)) (t .before .before .before .args .load) _ _ _ _ _ _ _ _ _ (t .before .high .ensures)
-    (s .before .low .ensures)
-    (p .before .high2 .ensures)
+    let s = c .before .before .before .before .before .before in
+    let l = s .before .before .before .before in
+    let p = l .before .before in
+    let t = p .before in
+    stored-as (now (t .before .before .before .args .numbers)) (t .before .before .before .args .load) _ _ _ _ _ _ _ _ _ _ _ (t .before .high .ensures)
+    (l .low .ensures)
+    (s .before .before .low2 .ensures)
+    (c .before .before .before .before .high2 .ensures)
     (p .phase-number .ensures)
+    (s .before .kept .ensures)
     (s .place-in .ensures)
     (c .before .before .before .joined .ensures ∙ ap (joined (p .phase-number .result)) (t .told-in .ensures))
     (c .before .before .joined2 .ensures)
