@@ -122,8 +122,9 @@ extern "C" {
 
 /*
  * A load state. A caller makes a fresh one, lends it to each write, and need not look inside. Any numbers may stand in it: those that
- * can't be a load are refused with 30. `told` and `table` are part of the state in one phase each. In any other phase they are not read,
- * and a write that ends in any other phase leaves them as they stood before it.
+ * can't be a load are refused with 30. `told` and `table` are part of the state in one phase each. In any other phase they are not read.
+ * A write that ends in any other phase leaves `told` as it stood; it leaves `table` as it stood where the phase is the one before the
+ * write, and 0 where the phase has moved.
  */
 struct tailbow_load {
     uint32_t phase;
@@ -165,10 +166,10 @@ void tailbow_fresh_load(struct tailbow_load *load);
  * a rule's number The first loading rule broken. The image is zero.
  *
  * Words behind an answer are ignored. Afterwards *load is the state for the next write: after an answer it holds
- * TAILBOW_PHASE_TOLD and the answer, all else 0 but `table`, which stays as it stood. `table` is written only where the phase afterwards is
- * TAILBOW_PHASE_DATA: it is then the table of the block that is under way. Between two blocks, in a header and after an answer it is what
- * stood there before the call, also where the write entered a block and left it. The four bytes behind `table` are kept in any case.
- * Neither 9 nor 10 is an answer here.
+ * TAILBOW_PHASE_TOLD and the answer, all else 0. In TAILBOW_PHASE_DATA `table` is the table of the block that is under way. In any other
+ * phase it is what stood there before the call where the phase is still the same, also behind whole blocks, and 0 where the phase has
+ * moved: from a fresh load it is 0 outside every block. The four bytes behind `table` are kept in any case. Neither 9 nor 10 is an
+ * answer here.
  */
 uint32_t tailbow_write(uint32_t *image, size_t image_words, struct tailbow_load *load, const uint32_t *words, size_t count);
 

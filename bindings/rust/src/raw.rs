@@ -15,8 +15,8 @@ pub struct FlatLoad {
     pub phase: u32,
     /// In phase 5 the answer, which is never [`MORE`]; in another phase it is not read, and left as it stood.
     pub told: u32,
-    /// In phase 4 the block's table by its number, from 0 on in the order in which the header lists them; in another phase it is not
-    /// read, and where the phase after a write is another it is left as it stood before that write.
+    /// In phase 4 the block's table by its number, from 0 on in the order in which the header lists them. In another phase it is not
+    /// read; a write that ends in one leaves it as it stood where the phase is the one before the write, and 0 where the phase has moved.
     pub table: u32,
     /// Data words of the block that stand in the image.
     pub placed: u64,

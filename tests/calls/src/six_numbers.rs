@@ -312,7 +312,7 @@ fn told_and_table_behind_every_write(tally: &mut Tally, name: &str, buffer: &[u3
     }
 }
 
-/// Every number stays through whole blocks, a table's or not, whichever table they are of. The next word moves the phase.
+/// Through whole blocks every number stays, a table's or not. The next word moves the phase: it leaves 0, or enters a block.
 fn the_table_where_the_phase_stays(tally: &mut Tally, name: &str, buffer: &[u32]) {
     let stream = stream();
     for (phase, from, to) in STAYS {
