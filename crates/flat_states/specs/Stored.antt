@@ -1,6 +1,6 @@
 -- The load states that six numbers hold: every state that a write leaves is one.
 use mathlib.Core.Path.{_≡_}
-use Prim.Native.Nat.{ℕ, _<_}
+use Prim.Native.Nat.{_<_}
 use Rattle.image.specs.declared.tables.Table.{Table}
 use Rattle.image.specs.declared.tables.Table.the-variants.{AddressLookup}
 use Rattle.stream.specs.declared.Phase.{Phase}

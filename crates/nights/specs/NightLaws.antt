@@ -8,7 +8,6 @@ use lib.ListN.{length}
 use borrow.Author.Tests.{le-ltb}
 use Rattle.image.specs.Layout.{imageWords, imageIn}
 use Rattle.image.specs.Loaded.{tooShort, notLoaded}
-use Rattle.ledger.specs.declared.Answer.{Answer}
 use Rattle.ledger.specs.declared.Answer.the-variants.{Done}
 use Rattle.ledger.specs.Answers.{answerOf, numberOf}
 use Rattle.ledger.specs.AnswersLaws.{numbered}
@@ -26,7 +25,7 @@ use Rattle.tile.specs.TilesLaws.{same-tile}
 use Rattle.kept.specs.History.{Event, frame, release, step, after}
 use Rattle.flat_answers.specs.Answers.{flatVerdict, flatTile}
 use Rattle.flat_frames.specs.Frames.{FreshensFlat, JudgesFlat, ReleasesFlat, TilesFlat}
-use Rattle.nights.specs.Nights.{Said, verdict, answer, Run, end, judges, releases, Night, NightOf, NightFlat, saidTo, saidOf, Says, SameNight, Alike, AlikeFlat}
+use Rattle.nights.specs.Nights.{Said, verdict, answer, Run, end, judges, releases, Night, saidTo, saidOf, Says, SameNight, Alike, AlikeFlat}
 
 -- Rattle's entries say it as it is
 pub says-of : (buffer : List ℕ) → Says (λ (v : Verdict). v) answerOf (λ (t : Asked). t) buffer (Freshened buffer) (Judges buffer) (Released buffer) (Tiled buffer)

@@ -1,14 +1,14 @@
 -- Demand 1. "It takes every stream, image, ledger, frame and list to an end. The public entries test what they need and refuse by number." Every function
 -- is shown to end, and no entry asks anything of its caller; here is what a refusal leaves, and that whatever did not load is never judged.
 use mathlib.Core.Path.{_≡_}
-use mathlib.Core.Bool.{Bool, true, false}
+use mathlib.Core.Bool.{true, false}
 use mathlib.Core.List.{List, [], _∷_}
 use Prim.Native.Nat.{ℕ}
 use lib.ListN.{length, getD, replicate}
 use Rattle.image.specs.Layout.{imageWords, imageIn}
 use Rattle.image.specs.Loaded.{tooShort, notLoaded}
 use Rattle.stream.specs.declared.Answer.{Answer}
-use Rattle.stream.specs.declared.Answer.the-variants.{More, Loaded, Refused}
+use Rattle.stream.specs.declared.Answer.the-variants.{Loaded, Refused}
 use Rattle.stream.specs.declared.Load.{Load}
 use Rattle.stream.specs.declared.Phase.the-variants.{Told}
 use Rattle.stream.specs.declared.states.Wrote.{Wrote}

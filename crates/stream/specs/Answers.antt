@@ -1,6 +1,5 @@
 -- A load's answer and what it says in document 01's terms.
 use mathlib.Core.List.{[]}
-use Prim.Native.Nat.{ℕ}
 use Rattle.laws.specs.Says.{Says, says}
 use Rattle.stream.specs.declared.Answer.{Answer}
 use Rattle.stream.specs.declared.Answer.the-variants.{More, Loaded, Refused}

@@ -1,6 +1,5 @@
 -- What a load's answer says tells every answer apart.
 use mathlib.Core.Path.{_≡_, refl, ap}
-use Prim.Native.Nat.{ℕ}
 use Rattle.laws.specs.Says.{Says}
 use Rattle.laws.specs.SaysLaws.{other-kind}
 use Rattle.stream.specs.Answers.{saidOf}
