@@ -1,13 +1,14 @@
 -- What a write leaves are the numbers of a load state again, and this state is the one that `stream` gives: writes one after the other are
 -- writes to the state.
 use mathlib.Core.Path.{_≡_, refl, _∙_, ap}
-use mathlib.Core.Bool.{Bool, true, false, cond, not}
+use mathlib.Core.Bool.{Bool, true, false, cond, not, _&&_}
 use mathlib.Core.List.{List, [], _∷_}
 use Prim.Native.Nat.{ℕ, suc, _+_, _-_, _/_, _%_, _<_}
 use lib.Dec.{ltb, eqb, lit<}
 use lib.ListN.{length}
 use lib.Seq.{length-sets}
-use borrow.Author.Tests.{eqb-false}
+use borrow.Author.Tests.{eqb-false, not-true}
+use Rattle.laws.specs.Chain.{both-passed}
 use Rattle.crc.specs.Crc.{wordIn, start, finished, checksum}
 use Rattle.crc.specs.Laws.{wordIn-lt}
 use Rattle.image.specs.Layout.{imageIn, cleared, marked}
@@ -44,22 +45,24 @@ Other n = n ≡ 0xFFFFFFFF → ⊥
 other : (n : ℕ) → eqb n 0xFFFFFFFF ≡ false → Other n
 other n = eqb-false n 0xFFFFFFFF
 
--- none of some rules has it
-abbrev Others : List Rule → Type 0
-Others [] = Unit {0}
-Others (r ∷ rs) = Other (r .number) × Others rs
+-- none of some rules has it, as one computed test shows
+abbrev others : List Rule → Bool
+others [] = true
+others (r ∷ rs) = not (eqb (r .number) 0xFFFFFFFF) && others rs
 
-rule-other : (rs : List Rule) (image : List ℕ) → Others rs → Other (firstOf rs image)
+rule-other : (rs : List Rule) (image : List ℕ) → others rs ≡ true → Other (firstOf rs image)
 rule-other [] image h = other 0 refl
-rule-other (r ∷ rs) image h = go (r .broken image) (rule-other rs image (h .1))
+rule-other (r ∷ rs) image h =
+    let both = both-passed (not (eqb (r .number) 0xFFFFFFFF)) (others rs) h in
+    go (r .broken image) (other (r .number) (not-true (eqb (r .number) 0xFFFFFFFF) (both .0))) (rule-other rs image (both .1))
   where
-    go : (b : Bool) → Other (firstOf rs image) → Other (cond b (r .number) (firstOf rs image))
-    go true rest = h .0
-    go false rest = rest
+    go : (b : Bool) → Other (r .number) → Other (firstOf rs image) → Other (cond b (r .number) (firstOf rs image))
+    go true own rest = own
+    go false own rest = rest
 
 ruled-other : (image : List ℕ) → Other (ruled image)
 unfolding ruled
-ruled-other image = rule-other rules image (other 20 refl, (other 21 refl, (other 22 refl, (other 23 refl, (other 24 refl, (other 25 refl, tt))))))
+ruled-other image = rule-other rules image refl
 
 answered : (n : ℕ) (buffer : List ℕ) → Other n → Kept (at (told n) buffer)
 answered n buffer h = record { load = record { first = lit< tt; stream = lit< tt; outside = refl; answered = h } }
