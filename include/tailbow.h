@@ -12,7 +12,8 @@
  *   writes during the call; an element lent for writing must not lie in any other slice of the same call.
  * - A load state and a ledger are lent where they lie. The pointer must not be null: it must point to one such struct, aligned, that nobody
  *   else writes during the call and that lies in no slice of the call.
- * - These two alone can't be tested by an entry, and are the caller's to keep.
+ * - These two can't be tested by an entry, and are the caller's to keep; so is stack enough. A long whole load keeps four tables of 4 KB there;
+ *   how much an entry needs in all no proof measures. Nothing else is the caller's to keep.
  * - Where a length is 0 no element is read or written. The pointer should still be one that isn't null, as to any object.
  *   A null pointer with length 0 has been tried in every place of this archive and did no harm, yet no proof speaks of it.
  * - The image is the first TAILBOW_IMAGE_WORDS words of a buffer that the caller lends. The buffer's rest is never read or written.
@@ -55,7 +56,7 @@ extern "C" {
 /* Answer 0: loaded; for a ledger or a release: done. */
 #define TAILBOW_LOADED 0u
 #define TAILBOW_DONE 0u
-/* A write's answer while the end block is incomplete. Document 01 gives "more" no number, and no refusal has this one. */
+/* A write's answer while the end block is incomplete. Document 01 gives "more" no number; no load is told this one as its answer. */
 #define TAILBOW_MORE 0xFFFFFFFFu
 
 /* A refused load: framing. */

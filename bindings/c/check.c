@@ -75,6 +75,7 @@ static void in_writes(size_t length)
         answer = tailbow_write(image, TAILBOW_IMAGE_WORDS + 1, &load, words + at, count - at < length ? count - at : length);
     }
     HOLDS(answer == TAILBOW_LOADED && load.phase == TAILBOW_PHASE_TOLD && load.told == TAILBOW_LOADED);
+    HOLDS(load.table == 0 && load.placed == 0 && load.due == 0 && load.first == 0 && load.second == 0 && load.stream == 0 && load.block == 0);
     HOLDS(memcmp(behind_table, nobodys, sizeof nobodys) == 0);
     memcpy(&found, &load, sizeof load);
     HOLDS(tailbow_write(image, TAILBOW_IMAGE_WORDS, &load, words, 1) == TAILBOW_LOADED && SAME(load, found));

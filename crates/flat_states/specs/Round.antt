@@ -19,10 +19,10 @@ use Rattle.flat_states.specs.Stored.{Outside, Storable}
 
 -- ---- halves
 
-low-joined : (l h : ℕ) → l < 4294967296 → low (joined l h) ≡ l
+pub low-joined : (l h : ℕ) → l < 4294967296 → low (joined l h) ≡ l
 low-joined l h s = omega arith
 
-high-joined : (l h : ℕ) → l < 4294967296 → high (joined l h) ≡ h
+pub high-joined : (l h : ℕ) → l < 4294967296 → high (joined l h) ≡ h
 high-joined l h s = omega arith
 
 pub joined-halves : (n : ℕ) → joined (low n) (high n) ≡ n
@@ -103,7 +103,7 @@ kept-fits before spare phase h = go (eqb before phase)
     go true = h
     go false = lit< tt
 
-place-fits : (spare : ℕ) (p : Phase) (t : Table) → spare < 4294967296 → placeIn spare p t < 4294967296
+pub place-fits : (spare : ℕ) (p : Phase) (t : Table) → spare < 4294967296 → placeIn spare p t < 4294967296
 place-fits spare Device t h = h
 place-fits spare Id t h = h
 place-fits spare Length t h = h
@@ -111,7 +111,7 @@ place-fits spare Sum t h = h
 place-fits spare Data t h = omega (arith, placed t .inside)
 place-fits spare (Told n) t h = h
 
-phase-fits : (p : Phase) → phaseNumber p ≤ 5
+pub phase-fits : (p : Phase) → phaseNumber p ≤ 5
 phase-fits Device = omega arith
 phase-fits Id = omega arith
 phase-fits Length = omega arith

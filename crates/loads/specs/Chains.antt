@@ -1,10 +1,13 @@
 -- Chains of writes: calls of `write`, each with the load state and the buffer that an outcome permitted for the last one left.
 use mathlib.Core.Path.{_≡_}
+use mathlib.Core.Bool.{true}
 use mathlib.Core.List.{List, [], _∷_}
 use Prim.Native.Nat.{ℕ}
+use lib.ListN.{length}
+use Rattle.stream.specs.declared.Load.{Load}
 use Rattle.stream.specs.Machine.{Written}
 use Rattle.stream.specs.Leaves.{Writes}
-use Rattle.flat_numbers.specs.Flat.{loadIn, numberOf}
+use Rattle.flat_numbers.specs.Flat.{joined, phaseNumber, toldIn, placeIn, isLoad, loadIn, numberOf}
 use Rattle.flat_loads.specs.Calls.{FlatWritten, WritesFlat}
 use Rattle.flat_loads.specs.Words.{Words}
 
@@ -43,3 +46,20 @@ pub record Tells (v : Written) (w : FlatWritten) : Type 0 where
   pub answer : w .answer ≡ numberOf (v .answer)
   pub state : loadIn (w .numbers) ≡ v .load
   pub buffer : w .buffer ≡ v .buffer
+
+-- and are a load state's
+pub record Stated (v : Written) (w : FlatWritten) : Type 0 where
+  pub tells : Tells v w
+  pub six : length (w .numbers) ≡ 6
+  pub is : isLoad (w .numbers) ≡ true
+
+-- the six numbers that a load state by itself has: what it does not read is 0
+abbrev pub plain : Load → List ℕ
+plain l =
+    joined (phaseNumber (l .phase)) (toldIn 0 (l .phase))
+    ∷ joined (placeIn 0 (l .phase) (l .table)) 0
+    ∷ l .placed
+    ∷ l .due
+    ∷ joined (l .first) (l .second)
+    ∷ joined (l .stream) (l .block)
+    ∷ []

@@ -1,6 +1,5 @@
 -- A chain of permitted writes comes to one thing, and a chain by numbers from a fresh load is a chain on the load state.
 use mathlib.Core.Path.{_≡_, refl, _∙_, ap}
-use mathlib.Core.Bool.{true}
 use mathlib.Core.List.{List}
 use Prim.Native.Nat.{ℕ}
 use lib.ListN.{length}
@@ -13,7 +12,7 @@ use Rattle.flat_loads.specs.Calls.{FlatWritten, wroteFlat, flattened}
 use Rattle.flat_loads.specs.Through.{of-state}
 use Rattle.flat_loads.specs.Words.{Words}
 use Rattle.flat_loads.specs.Kept.{state-after, is-state-after, six-after}
-use Rattle.loads.specs.Chains.{done, call, Writing, WriteChain, WritingFlat, WriteChainFlat, unwrittenFlat, AllWords, Tells}
+use Rattle.loads.specs.Chains.{done, call, Writing, WriteChain, WritingFlat, WriteChainFlat, unwrittenFlat, AllWords, Tells, Stated}
 
 -- one permitted write is `wrote`
 pub permitted : (w : Written) {v : Written} {c : List ℕ} → Writing w c v → v ≡ wrote (w .load) (w .buffer) c
@@ -28,13 +27,8 @@ unfolding writes
 chain-is done = refl
 chain-is (call {s = w} {cs = cs} p q) = chain-is q ∙ ap (λ (x : Written). writes x cs) (permitted w p)
 
--- numbers that are a load state's, and tell what a write to it left
-record Stated (v : Written) (w : FlatWritten) : Type 0 where
-  tells : Tells v w
-  six : length (w .numbers) ≡ 6
-  is : isLoad (w .numbers) ≡ true
-
-stated : {v : Written} {w x : FlatWritten} {c : List ℕ} → Stated v w → Words c → WritingFlat w c x → Stated (wrote (v .load) (v .buffer) c) x
+-- which a permitted write keeps
+pub stated : {v : Written} {w x : FlatWritten} {c : List ℕ} → Stated v w → Words c → WritingFlat w c x → Stated (wrote (v .load) (v .buffer) c) x
 stated {v} {w} {x} {c} s small p =
     record {
       tells = record {
@@ -61,16 +55,17 @@ follows {v} s small done = (v, done, s .tells)
 follows {v} s small (call {c = c} p q) =
     let r = follows (stated s (small .0) p) (small .1) q in (r .0, call (record { answer = refl; said = refl; state = refl; kept = refl }) (r .1), r .2)
 
+-- a fresh load's numbers are a state's
+pub fresh-stated : {numbers : List ℕ} (buffer : List ℕ) → FreshLoad numbers → Stated (unwritten buffer) (unwrittenFlat numbers buffer)
+fresh-stated buffer fresh =
+    record {
+      tells = record { answer = refl; state = fresh .state; buffer = refl };
+      six = ap length (fresh .numbers);
+      is = ap isLoad (fresh .numbers);
+    }
+
 -- a chain by numbers from a fresh load is a chain on the load state
 pub flat-chain : {numbers buffer : List ℕ} {cs : List (List ℕ)} {x : FlatWritten} → FreshLoad numbers → AllWords cs
     → WriteChainFlat (unwrittenFlat numbers buffer) cs x
     → (u : Written) × WriteChain (unwritten buffer) cs u × Tells u x
-flat-chain fresh small chain =
-    follows
-    (record {
-      tells = record { answer = refl; state = fresh .state; buffer = refl };
-      six = ap length (fresh .numbers);
-      is = ap isLoad (fresh .numbers);
-    })
-    small
-    chain
+flat-chain {buffer = buffer} fresh small chain = follows (fresh-stated buffer fresh) small chain

@@ -15,3 +15,4 @@ pub mod AsFound
 pub mod Given
 pub mod Lists
 pub mod ListsProved
+pub mod TraceProved

@@ -13,3 +13,4 @@ pub mod Meters
 pub mod MetersProved
 pub mod Units
 pub mod UnitsProved
+pub mod RangeProved

@@ -4,11 +4,11 @@ use mathlib.Core.Path.{_≡_}
 use mathlib.Core.Bool.{true, false}
 use mathlib.Core.List.{List, [], _∷_}
 use Prim.Native.Nat.{ℕ}
-use lib.ListN.{length, getD, replicate}
-use Rattle.image.specs.Layout.{imageWords, imageIn}
+use lib.ListN.{length, replicate}
+use Rattle.image.specs.Layout.{imageWords, imageIn, markOf}
 use Rattle.image.specs.Loaded.{tooShort, notLoaded}
 use Rattle.stream.specs.declared.Answer.{Answer}
-use Rattle.stream.specs.declared.Answer.the-variants.{Loaded, Refused}
+use Rattle.stream.specs.declared.Answer.the-variants.{More, Loaded, Refused}
 use Rattle.stream.specs.declared.Load.{Load}
 use Rattle.stream.specs.declared.Phase.the-variants.{Told}
 use Rattle.stream.specs.declared.states.Wrote.{Wrote}
@@ -24,14 +24,10 @@ use Rattle.row.specs.Release.{Released}
 use Rattle.settle.specs.declared.Verdict.{Verdict}
 use Rattle.settle.specs.declared.Verdict.the-variants as verdict
 use Rattle.judge.specs.Judge.{Judges}
-use Rattle.flat_numbers.specs.Flat.{low, loadIn, FreshLoad}
-use Rattle.flat_answers.specs.declared.FlatVerdict.{FlatVerdict}
-use Rattle.flat_loads.specs.Calls.{FlatWritten, WritesFlat}
-use Rattle.flat_frames.specs.Frames.{FreshensFlat, JudgesFlat, ReleasesFlat}
-use Rattle.loads.specs.Chains.{WriteChain, WriteChainFlat, unwrittenFlat, AllWords}
+use Rattle.loads.specs.Chains.{WriteChain}
 use Rattle.loads.specs.Refusals.{OneOf, RefusedWith, leaveAsFound}
 use Rattle.loads.specs.Moves.{isTold, RestKept}
-use Rattle.loads.specs.Wholes.{WholeLoad, WholeLoadFlat}
+use Rattle.loads.specs.Wholes.{WholeLoad}
 use Rattle.loads.specs.Rest as rest
 use Rattle.loads.specs.AsFound as found
 use Rattle.loads.specs.Marked as marked
@@ -47,10 +43,6 @@ pub refused-load-is-zero : {buffer : List ℕ} {answer : Answer} {after : List �
     → imageIn after ≡ replicate imageWords 0
 refused-load-is-zero = found.refused-whole-load-is-zero
 
-pub refused-load-is-zero-flat : {buffer : List ℕ} {r : ℕ} {after : List ℕ} → WholeLoadFlat buffer r after → (r ≡ 0 → ⊥) → (OneOf r (9 ∷ 31 ∷ []) → ⊥)
-    → imageIn after ≡ replicate imageWords 0
-refused-load-is-zero-flat = found.flat-refused-whole-load-is-zero
-
 -- a write, in whatever state the load stood that had told no answer yet: any refusal but 30, 31 and 32
 pub refused-write-is-zero : {l : Load} {buffer words : List ℕ} {r : Wrote} {after : List ℕ} → Writes l buffer words r after → {n : ℕ} → isTold (l .phase) ≡ false
     → r .answer ≡ Refused n
@@ -58,28 +50,13 @@ pub refused-write-is-zero : {l : Load} {buffer words : List ℕ} {r : Wrote} {af
     → imageIn after ≡ replicate imageWords 0
 refused-write-is-zero = found.refused-write-is-zero
 
-pub refused-write-is-zero-flat : {numbers buffer words : List ℕ} {r : ℕ} {after kept : List ℕ} → WritesFlat numbers buffer words r after kept
-    → isTold (loadIn numbers .phase) ≡ false
-    → (r ≡ 0 → ⊥)
-    → (r ≡ 0xFFFFFFFF → ⊥)
-    → (OneOf r (30 ∷ 31 ∷ 32 ∷ []) → ⊥)
-    → imageIn kept ≡ replicate imageWords 0
-refused-write-is-zero-flat = found.flat-refused-write-is-zero
-
 -- "9, 30, 31 and 32 leave everything as found": so what was judged before is judged after, and nothing else
 pub write-as-found : {l : Load} {buffer words : List ℕ} {r : Wrote} {after : List ℕ} → Writes l buffer words r after → RefusedWith leaveAsFound (r .answer)
     → (r .load ≡ l) × (after ≡ buffer)
 write-as-found = found.write-as-found
 
-pub write-as-found-flat : {numbers buffer words : List ℕ} {r : ℕ} {after kept : List ℕ} → WritesFlat numbers buffer words r after kept → OneOf r leaveAsFound
-    → (after ≡ numbers) × (kept ≡ buffer)
-write-as-found-flat = found.flat-write-as-found
-
 pub load-as-found : {buffer : List ℕ} {answer : Answer} {after : List ℕ} → WholeLoad buffer answer after → RefusedWith leaveAsFound answer → after ≡ buffer
 load-as-found = found.whole-load-as-found
-
-pub load-as-found-flat : {buffer : List ℕ} {r : ℕ} {after : List ℕ} → WholeLoadFlat buffer r after → OneOf r leaveAsFound → after ≡ buffer
-load-as-found-flat = found.flat-whole-load-as-found
 
 -- "Words after an answer are ignored; the answer is repeated"
 pub told-answer-is-repeated : {l : Load} {buffer words : List ℕ} {r : Wrote} {after : List ℕ} → Writes l buffer words r after → {n : ℕ} → l .phase ≡ Told n
@@ -103,26 +80,13 @@ pub first-write-never-30 : {l : Load} {buffer words : List ℕ} {r : Wrote} {aft
     → ⊥
 first-write-never-30 = found.first-write-never-30
 
--- for C and Rust: numbers in the first phase, whatever the others are
-pub first-write-never-30-flat : {numbers buffer words : List ℕ} {r : ℕ} {after kept : List ℕ} → WritesFlat numbers buffer words r after kept
-    → low (getD numbers 0 0) ≡ 0
-    → r ≡ 30
-    → ⊥
-first-write-never-30-flat = found.flat-first-write-never-30
-
 -- ---- "a lent buffer, whose rest is never written": its length too stays, for all load states, buffers and words
 
 pub rest-kept-by-a-write : {l : Load} {buffer words : List ℕ} {r : Wrote} {after : List ℕ} → Writes l buffer words r after → RestKept buffer after
 rest-kept-by-a-write = rest.write-keeps-the-rest
 
-pub rest-kept-by-a-write-flat : {numbers buffer words : List ℕ} {r : ℕ} {after kept : List ℕ} → WritesFlat numbers buffer words r after kept → RestKept buffer kept
-rest-kept-by-a-write-flat = rest.flat-write-keeps-the-rest
-
 pub rest-kept-by-a-load : {buffer : List ℕ} {answer : Answer} {after : List ℕ} → WholeLoad buffer answer after → RestKept buffer after
 rest-kept-by-a-load = rest.whole-load-keeps-the-rest
-
-pub rest-kept-by-a-load-flat : {buffer : List ℕ} {r : ℕ} {after : List ℕ} → WholeLoadFlat buffer r after → RestKept buffer after
-rest-kept-by-a-load-flat = rest.flat-whole-load-keeps-the-rest
 
 -- ---- "a refused frame changes nothing"
 
@@ -132,29 +96,15 @@ pub refused-frame-keeps-the-row : (buffer g : List ℕ) (port time : ℕ) (frame
     → after ≡ g
 refused-frame-keeps-the-row = refused.refused-frame-keeps-the-row
 
-pub refused-frame-keeps-the-lent-ledger : (buffer g : List ℕ) (port time : ℕ) (frame : List ℕ) (r : FlatVerdict) (after : List ℕ)
-    → JudgesFlat buffer g port time frame r after
-    → r .kind ≡ 0
-    → after ≡ g
-refused-frame-keeps-the-lent-ledger = refused.refused-frame-keeps-the-lent-ledger
-
 pub refused-release-keeps-the-row : (buffer g : List ℕ) (partition n : ℕ) (r : ledger.Answer) (after : List ℕ) → Released buffer g partition r after
     → r ≡ answered.Refused n
     → after ≡ g
 refused-release-keeps-the-row = refused.refused-release-keeps-the-row
 
-pub refused-release-keeps-the-lent-ledger : (buffer g : List ℕ) (partition r : ℕ) (after : List ℕ) → ReleasesFlat buffer g partition r after → (r ≡ 0 → ⊥)
-    → after ≡ g
-refused-release-keeps-the-lent-ledger = refused.refused-release-keeps-the-lent-ledger
-
 -- a refused fresh ledger is none, never what stood in the row, and 39 refuses it under every image
 pub refused-ledger-is-none : (buffer : List ℕ) (n : ℕ) (r : ledger.Answer) (after : List ℕ) → Freshened buffer r after → r ≡ answered.Refused n
     → (after ≡ noLedger) × ((image : List ℕ) → outOfRange image after ≡ true)
 refused-ledger-is-none = refused.refused-ledger-is-none
-
-pub refused-lent-ledger-is-none : (buffer : List ℕ) (r : ℕ) (after : List ℕ) → FreshensFlat buffer r after → (r ≡ 0 → ⊥)
-    → (after ≡ noLedger) × ((image : List ℕ) → outOfRange image after ≡ true)
-refused-lent-ledger-is-none = refused.refused-lent-ledger-is-none
 
 -- ---- "An image that isn't loaded is never judged": the night that was billed for nothing
 
@@ -162,14 +112,16 @@ refused-lent-ledger-is-none = refused.refused-lent-ledger-is-none
 pub zero-image-not-loaded : notLoaded (replicate imageWords 0) ≡ true
 zero-image-not-loaded = marked.zero-image-not-loaded
 
+-- from a fresh load an image at "more" is not marked
+pub unfinished-not-marked : {buffer c : List ℕ} {cs : List (List ℕ)} {v : Written} → WriteChain (unwritten buffer) (c ∷ cs) v → v .answer ≡ More
+    → markOf (imageIn (v .buffer)) ≡ 0
+unfinished-not-marked = marked.chain-unmarked
+
 -- whatever a whole load answered but loaded, 9 and 31: a fresh ledger, every frame and every release is told 30, and tiles 0 to 4 are not-loaded
 pub not-loaded-not-judged : {buffer : List ℕ} {answer : Answer} {after : List ℕ} → WholeLoad buffer answer after → (answer ≡ Loaded → ⊥)
     → (RefusedWith (9 ∷ 31 ∷ []) answer → ⊥)
     → NeverJudged after
 not-loaded-not-judged p z h = never-judged _ (marked.whole-load-unloaded p z h)
-
-pub not-loaded-not-judged-flat : {buffer : List ℕ} {r : ℕ} {after : List ℕ} → WholeLoadFlat buffer r after → (r ≡ 0 → ⊥) → (OneOf r (9 ∷ 31 ∷ []) → ⊥) → NeverJudged after
-not-loaded-not-judged-flat p z h = never-judged _ (marked.flat-whole-load-unloaded p z h)
 
 -- whatever the last of a chain of permitted writes from a fresh load answered, "more" among it, but loaded, 30, 31 and 32: the same
 pub unfinished-not-judged : {buffer c : List ℕ} {cs : List (List ℕ)} {v : Written} → WriteChain (unwritten buffer) (c ∷ cs) v → (v .answer ≡ Loaded → ⊥)
@@ -177,25 +129,9 @@ pub unfinished-not-judged : {buffer c : List ℕ} {cs : List (List ℕ)} {v : Wr
     → NeverJudged (v .buffer)
 unfinished-not-judged p z h = never-judged _ (marked.chain-unloaded p z h)
 
-pub unfinished-not-judged-flat : {numbers buffer c : List ℕ} {cs : List (List ℕ)} {x : FlatWritten} → FreshLoad numbers → AllWords (c ∷ cs)
-    → WriteChainFlat (unwrittenFlat numbers buffer) (c ∷ cs) x
-    → (x .answer ≡ 0 → ⊥)
-    → (OneOf (x .answer) (30 ∷ 31 ∷ 32 ∷ []) → ⊥)
-    → NeverJudged (x .buffer)
-unfinished-not-judged-flat f w p z h = never-judged _ (marked.flat-chain-unloaded f w p z h)
-
 -- answered loaded, no call under that image is ever told 30
 pub loaded-never-30 : {buffer : List ℕ} {answer : Answer} {after : List ℕ} → WholeLoad buffer answer after → answer ≡ Loaded → NeverThirty after
 loaded-never-30 p e = never-thirty _ (marked.whole-load-loaded p e)
 
-pub loaded-never-30-flat : {buffer : List ℕ} {r : ℕ} {after : List ℕ} → WholeLoadFlat buffer r after → r ≡ 0 → NeverThirty after
-loaded-never-30-flat p e = never-thirty _ (marked.flat-whole-load-loaded p e)
-
 pub finished-never-30 : {buffer c : List ℕ} {cs : List (List ℕ)} {v : Written} → WriteChain (unwritten buffer) (c ∷ cs) v → v .answer ≡ Loaded → NeverThirty (v .buffer)
 finished-never-30 p e = never-thirty _ (marked.chain-loaded p e)
-
-pub finished-never-30-flat : {numbers buffer c : List ℕ} {cs : List (List ℕ)} {x : FlatWritten} → FreshLoad numbers → AllWords (c ∷ cs)
-    → WriteChainFlat (unwrittenFlat numbers buffer) (c ∷ cs) x
-    → x .answer ≡ 0
-    → NeverThirty (x .buffer)
-finished-never-30-flat f w p e = never-thirty _ (marked.flat-chain-loaded f w p e)

@@ -12,43 +12,37 @@ use Rattle.image.specs.declared.tables.Table.{Table}
 use Rattle.fields.specs.Fields.{partSpc}
 use Rattle.stream.specs.declared.Answer.{Answer}
 use Rattle.stream.specs.declared.Answer.the-variants.{Loaded}
-use Rattle.stream.specs.Paper.{passed, framed, loaded, numbered}
+use Rattle.stream.specs.Paper.{passed, framed, numbered}
 use Rattle.stream.specs.Leaves.{EndsWords, EndsBytes}
 use Rattle.ledger.specs.declared.Answer as ledger
 use Rattle.ledger.specs.declared.Answer.the-variants.{Done}
 use Rattle.ledger.specs.Row.{units, credit, many, cellCount, cell}
 use Rattle.ledger.specs.Range.{outOfRange}
-use Rattle.row.specs.Fresh.{freshOf, Freshened}
+use Rattle.row.specs.Fresh.{Freshened}
 use Rattle.row.specs.Release.{Released}
 use Rattle.settle.specs.declared.Verdict.{Verdict}
 use Rattle.judge.specs.Judge.{Judges}
 use Rattle.tile.specs.declared.shares.Asked.{Asked}
-use Rattle.kept.specs.History.{Event, after}
-use Rattle.kept.specs.HistoryLaws.{never-39}
+use Rattle.kept.specs.History.{Event}
 use Rattle.records.specs.OfK.{listOfK}
 use Rattle.config_k.specs.Stream.{K}
 use Rattle.config_k.specs.Tables.{kTables}
-use Rattle.config_k.specs.Loads.{k-loaded}
-use Rattle.flat_answers.specs.declared.FlatVerdict.{FlatVerdict}
-use Rattle.flat_answers.specs.declared.FlatTile.{FlatTile}
-use Rattle.flat_answers.specs.Answers.{flatVerdict}
-use Rattle.flat_loads.specs.Calls.{LoadsWords, LoadsBytes}
-use Rattle.flat_frames.specs.Frames.{FreshensFlat, JudgesFlat, ReleasesFlat}
 use Rattle.exactly.specs.First.{First, Exactly}
 use Rattle.exactly.specs.Load.{WordsPage, BytesPage}
 use Rattle.exactly.specs.Steps.{framePage, verdictBy}
 use Rattle.exactly.specs.LoadProved as load
 use Rattle.exactly.specs.StepsProved as steps
 use Rattle.loads.specs.Given as given
-use Rattle.nights.specs.Nights.{Said, RunOf, RunFlat, NightOf, NightFlat}
-use Rattle.nights.specs.Sums.{kindOf, kindFlat, sumsOf, Shows, ShowsFlat}
+use Rattle.nights.specs.Nights.{Said, RunOf, NightOf}
+use Rattle.nights.specs.Sums.{kindOf, sumsOf, Shows}
 use Rattle.nights.specs.SumsProved as sums
-use Rattle.nights.specs.Units.{doneOf, doneFlat, taken, returned}
+use Rattle.nights.specs.Units.{doneOf, taken, returned}
 use Rattle.nights.specs.UnitsProved as parts
-use Rattle.nights.specs.Meters.{fromNine, fromNineFlat, Unmoved, Metered}
+use Rattle.nights.specs.Meters.{fromNine, Unmoved, Metered}
 use Rattle.nights.specs.MetersProved as meters
+use Rattle.nights.specs.RangeProved as range
 use Rattle.night_k.specs.List.{eventsIn}
-use Rattle.night_k.specs.Output.{OutputOf, OutputFlat}
+use Rattle.night_k.specs.Output.{OutputOf}
 use Rattle.night_k.specs.NightProved as whole
 
 -- ---- "A stream is refused exactly when a rule there is broken, and with the first one broken": the load's page, framing and rules as one
@@ -58,12 +52,6 @@ words-told-the-first = load.words-told-the-first
 
 pub bytes-told-the-first : (buffer bytes : List ℕ) (r : Answer) (after : List ℕ) → EndsBytes buffer bytes r after → Exactly Answer (BytesPage buffer bytes) numbered r
 bytes-told-the-first = load.bytes-told-the-first
-
-pub words-told-the-first-flat : (buffer words : List ℕ) (r : ℕ) (after : List ℕ) → LoadsWords buffer words r after → Exactly ℕ (WordsPage buffer words) (λ n. n) r
-words-told-the-first-flat = load.words-told-the-first-flat
-
-pub bytes-told-the-first-flat : (buffer bytes : List ℕ) (r : ℕ) (after : List ℕ) → LoadsBytes buffer bytes r after → Exactly ℕ (BytesPage buffer bytes) (λ n. n) r
-bytes-told-the-first-flat = load.bytes-told-the-first-flat
 
 -- ---- its tables: a loaded image gives back each table's entries, as many as its stream brought
 
@@ -81,18 +69,15 @@ pub gives-back-each-entry : (buffer words : List ℕ) {after : List ℕ} {answer
 gives-back-each-entry = given.gives-back-each-entry
 
 -- "demand 2 gives K its answer and tables"
-pub k-gets-0-and-its-tables : loaded K ≡ record { number = 0; image = imageOf kTables }
-k-gets-0-and-its-tables = k-loaded
+pub k-gets-0-and-its-tables : (before : List ℕ) → tooShort before ≡ false → (r : Answer) (after : List ℕ) → EndsWords before K r after
+    → (r ≡ Loaded) × (imageIn after ≡ imageOf kTables)
+k-gets-0-and-its-tables before room r after p = let k = whole.load-of-K before room r after p in (k .0, k .1 .image)
 
 -- ---- its verdicts: a frame's page. "The first drop that applies is the verdict", and before it the first refusal
 
 pub first-that-applies : (buffer g : List ℕ) (port time : ℕ) (frame : List ℕ) (r : Verdict) (after : List ℕ) → Judges buffer g port time frame r after
     → Exactly Verdict (First (framePage buffer g port time frame)) (verdictBy buffer port frame) r
 first-that-applies = steps.first-that-applies
-
-pub first-that-applies-flat : (buffer g : List ℕ) (port time : ℕ) (frame : List ℕ) (r : FlatVerdict) (after : List ℕ) → JudgesFlat buffer g port time frame r after
-    → Exactly FlatVerdict (First (framePage buffer g port time frame)) (λ n. flatVerdict (verdictBy buffer port frame n)) r
-first-that-applies-flat = steps.first-that-applies-flat
 
 -- ---- its partitions: over a night the units left and those taken are the configured space and those given back
 
@@ -104,14 +89,6 @@ pub units-left-are-the-space-less-those-out : (buffer : List ℕ) (es : List Eve
     → cell z units j + taken kindOf (imageIn buffer) j es said ≡ partSpc (imageIn buffer) j + returned doneOf j es said
 units-left-are-the-space-less-those-out = parts.units-left-are-the-space-less-those-out
 
-pub units-left-are-the-space-less-those-out-flat : (buffer : List ℕ) (es : List Event) (g : List ℕ) (said : List (Said FlatVerdict ℕ)) (z : List ℕ)
-    → FreshensFlat buffer 0 g
-    → RunFlat buffer g es said z
-    → (j : ℕ)
-    → j < many units
-    → cell z units j + taken kindFlat (imageIn buffer) j es said ≡ partSpc (imageIn buffer) j + returned doneFlat j es said
-units-left-are-the-space-less-those-out-flat = parts.units-left-are-the-space-less-those-out-flat
-
 -- ---- its meters: a call changes only the SHARINDX entry's credit and time, and only from step 9 on
 
 pub only-the-own-meter : (buffer g : List ℕ) (port time : ℕ) (bytes : List ℕ) → length g ≡ cellCount → (r : Verdict) (after : List ℕ)
@@ -119,18 +96,9 @@ pub only-the-own-meter : (buffer g : List ℕ) (port time : ℕ) (bytes : List �
     → Metered (imageIn buffer) g port time bytes (fromNine r) after
 only-the-own-meter = meters.only-the-own-meter
 
-pub only-the-own-meter-flat : (buffer g : List ℕ) (port time : ℕ) (bytes : List ℕ) → length g ≡ cellCount → (r : FlatVerdict) (after : List ℕ)
-    → JudgesFlat buffer g port time bytes r after
-    → Metered (imageIn buffer) g port time bytes (fromNineFlat r) after
-only-the-own-meter-flat = meters.only-the-own-meter-flat
-
 pub release-moves-no-meter : (buffer g : List ℕ) (partition j : ℕ) → j < many credit → (r : ledger.Answer) (after : List ℕ) → Released buffer g partition r after
     → Unmoved g after j
 release-moves-no-meter = meters.release-moves-no-meter
-
-pub release-moves-no-meter-flat : (buffer g : List ℕ) (partition j : ℕ) → j < many credit → (r : ℕ) (after : List ℕ) → ReleasesFlat buffer g partition r after
-    → Unmoved g after j
-release-moves-no-meter-flat = meters.release-moves-no-meter-flat
 
 -- ---- its tiles: over a night a port's tile is that of four plain sums over the verdicts. "A port with no frames shows no share", and no other port;
 -- "with frames and no drops both are +0"; a share is "the exact bits of that division"
@@ -142,16 +110,11 @@ pub night-shows-the-sums : (buffer : List ℕ) (es : List Event) (g : List ℕ) 
     → Shows (sumsOf kindOf p es said) (tile p)
 night-shows-the-sums = sums.night-shows-the-sums
 
-pub night-shows-the-sums-flat : (buffer : List ℕ) (es : List Event) (g : List ℕ) (said : List (Said FlatVerdict ℕ)) (z : List ℕ) (tile : ℕ → FlatTile)
-    → NightFlat buffer es 0 g said z tile
-    → (p : ℕ)
-    → p < 5
-    → ShowsFlat (sumsOf kindFlat p es said) (tile p)
-night-shows-the-sums-flat = sums.night-shows-the-sums-flat
-
--- a ledger that only our calls touched is never refused with 39
-pub own-ledger-never-39 : (buffer : List ℕ) (es : List Event) → outOfRange (imageIn buffer) (after buffer (freshOf (imageIn buffer)) es) ≡ false
-own-ledger-never-39 = never-39
+-- a ledger that only permitted calls touched, from a fresh one on, is never refused with 39
+pub own-ledger-never-39 : (buffer : List ℕ) (es : List Event) (g : List ℕ) (said : List (Said Verdict ledger.Answer)) (z : List ℕ) → Freshened buffer Done g
+    → RunOf buffer g es said z
+    → outOfRange (imageIn buffer) z ≡ false
+own-ledger-never-39 = range.own-ledger-never-39
 
 -- ---- the night of K, whole: whatever a permitted load of K's stream leaves, and every permitted night of its list under it, is document 01's output
 
@@ -160,9 +123,3 @@ pub night-of-K : (before : List ℕ) → tooShort before ≡ false → {r : Answ
     → NightOf after (eventsIn listOfK) first g said z tile
     → (r ≡ Loaded) × OutputOf first said z tile
 night-of-K = whole.night-of-K
-
-pub night-of-K-flat : (before : List ℕ) → tooShort before ≡ false → {r : ℕ} {after : List ℕ} → LoadsWords before K r after → {first : ℕ} {g z : List ℕ}
-    {said : List (Said FlatVerdict ℕ)} {tile : ℕ → FlatTile}
-    → NightFlat after (eventsIn listOfK) first g said z tile
-    → (r ≡ 0) × OutputFlat first said z tile
-night-of-K-flat = whole.night-of-K-flat

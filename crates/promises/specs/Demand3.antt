@@ -13,14 +13,12 @@ use Rattle.stream.specs.Machine.{Written}
 use Rattle.stream.specs.Cutting.{unwritten}
 use Rattle.stream.specs.Order.{Piece, streamed}
 use Rattle.stream.specs.declared.Answer.the-variants.{Loaded}
-use Rattle.flat_numbers.specs.Flat.{FreshLoad}
-use Rattle.flat_loads.specs.Calls.{FlatWritten}
-use Rattle.loads.specs.Chains.{WriteChain, WriteChainFlat, unwrittenFlat, AllWords}
-use Rattle.loads.specs.Lists.{Carries, Sent, Gets, GetsFlat}
+use Rattle.loads.specs.Chains.{WriteChain}
+use Rattle.loads.specs.Lists.{Carries, Sent, Gets}
 use Rattle.loads.specs.ListsProved as lists
 use Rattle.loads.specs.Rest.{room-kept}
-use Rattle.nights.specs.Nights.{Alike, AlikeFlat}
-use Rattle.nights.specs.NightLaws.{alike, alike-flat}
+use Rattle.nights.specs.Nights.{Alike}
+use Rattle.nights.specs.NightLaws.{alike}
 
 -- streams that carry these lists do pass all framing rules, both with these lists
 pub any-order-passes : {lists : List (List ℕ)} {ps qs : List Piece} (e0 e1 f0 f1 : ℕ) → Carries lists ps → Carries lists qs → lengthOf e1 ≡ 0 → lengthOf f1 ≡ 0
@@ -39,18 +37,3 @@ pub demand-3 : {lists : List (List ℕ)} {cs ds : List (List ℕ)} {a b : List �
 demand-3 s t ra rb p q =
     let g = lists.both-get-the-lists s t ra rb p q in
     (g .0, g .1, λ loaded. alike _ _ (room-kept ra (g .0 .rest)) (room-kept rb (g .1 .rest)) (g .0 .image ∙ sym (g .1 .image)))
-
--- the same at the entries for C and Rust
-pub demand-3-flat : {lists : List (List ℕ)} {cs ds : List (List ℕ)} {a b m n : List ℕ} {v w : FlatWritten} → Sent lists cs → Sent lists ds → AllWords cs → AllWords ds
-    → imageWords ≤ length a
-    → imageWords ≤ length b
-    → FreshLoad m
-    → FreshLoad n
-    → WriteChainFlat (unwrittenFlat m a) cs v
-    → WriteChainFlat (unwrittenFlat n b) ds w
-    → GetsFlat lists a v
-    × GetsFlat lists b w
-    × (v .answer ≡ 0 → AlikeFlat (v .buffer) (w .buffer))
-demand-3-flat s t sa sb ra rb fm fn p q =
-    let g = lists.both-get-the-lists-flat s t sa sb ra rb fm fn p q in
-    (g .0, g .1, λ loaded. alike-flat _ _ (room-kept ra (g .0 .rest)) (room-kept rb (g .1 .rest)) (g .0 .image ∙ sym (g .1 .image)))
