@@ -1,25 +1,23 @@
 -- What a write leaves are the numbers of a load state again, and this state is the one that `stream` gives: writes one after the other are
 -- writes to the state.
 use mathlib.Core.Path.{_≡_, refl, _∙_, ap}
-use mathlib.Core.Bool.{Bool, true, false, cond, not, _&&_}
+use mathlib.Core.Bool.{Bool, true, false, cond, not}
 use mathlib.Core.List.{List, [], _∷_}
-use Prim.Native.Nat.{ℕ, suc, _+_, _-_, _/_, _%_, _<_}
-use lib.Dec.{ltb, eqb, lit<}
+use Prim.Native.Nat.{ℕ, suc, _+_, _-_, _<_}
+use lib.Dec.{eqb, lit<}
 use lib.ListN.{length}
 use lib.Seq.{length-sets}
 use borrow.Author.Tests.{eqb-false, not-true}
-use Rattle.laws.specs.Chain.{both-passed}
 use Rattle.crc.specs.Crc.{wordIn, start, finished, checksum}
 use Rattle.crc.specs.Laws.{wordIn-lt}
 use Rattle.image.specs.Layout.{imageIn, cleared, marked}
 use Rattle.image.specs.Blocks.{blockOf}
-use Rattle.image.specs.Rows.{sizeOf, mostOf}
 use Rattle.image.specs.Loaded.{tooShort}
 use Rattle.image.specs.declared.tables.Table.{Table}
-use Rattle.image.specs.declared.tables.Block.{Block}
-use Rattle.image.specs.declared.tables.Block.the-variants.{Carried, NotCarried, Unknown}
-use Rattle.rules.specs.Rules.{Rule, rules, firstOf, ruled}
-use Rattle.stream.specs.Header.{device, idOf, lengthOf, headerOf}
+use Rattle.rules.specs.Rules.{rules, firstOf, ruled}
+use Rattle.rules.specs.NumbersLaws.{first-holds}
+use Rattle.stream.specs.Headers.{header-passes}
+use Rattle.stream.specs.Header.{device, idOf, lengthOf, headerOf, wrongPasses}
 use Rattle.stream.specs.Machine.{Machine, at, idle, filling, told, hadIn, begins, stepIn, step, run, damaged, outside, untouched, written, opened, wrote}
 use Rattle.stream.specs.declared.Header.{Header}
 use Rattle.stream.specs.declared.Header.the-variants.{Wrong, Right}
@@ -42,27 +40,15 @@ record Kept (m : Machine) : Type 0 where
 abbrev Other : ℕ → Type 0
 Other n = n ≡ 0xFFFFFFFF → ⊥
 
+abbrev notMore : ℕ → Bool
+notMore n = not (eqb n 0xFFFFFFFF)
+
 other : (n : ℕ) → eqb n 0xFFFFFFFF ≡ false → Other n
 other n = eqb-false n 0xFFFFFFFF
 
--- none of some rules has it, as one computed test shows
-abbrev others : List Rule → Bool
-others [] = true
-others (r ∷ rs) = not (eqb (r .number) 0xFFFFFFFF) && others rs
-
-rule-other : (rs : List Rule) (image : List ℕ) → others rs ≡ true → Other (firstOf rs image)
-rule-other [] image h = other 0 refl
-rule-other (r ∷ rs) image h =
-    let both = both-passed (not (eqb (r .number) 0xFFFFFFFF)) (others rs) h in
-    go (r .broken image) (other (r .number) (not-true (eqb (r .number) 0xFFFFFFFF) (both .0))) (rule-other rs image (both .1))
-  where
-    go : (b : Bool) → Other (r .number) → Other (firstOf rs image) → Other (cond b (r .number) (firstOf rs image))
-    go true own rest = own
-    go false own rest = rest
-
 ruled-other : (image : List ℕ) → Other (ruled image)
 unfolding ruled
-ruled-other image = rule-other rules image refl
+ruled-other image = other (firstOf rules image) (not-true _ (first-holds notMore rules image refl refl))
 
 answered : (n : ℕ) (buffer : List ℕ) → Other n → Kept (at (told n) buffer)
 answered n buffer h = record { load = record { first = lit< tt; stream = lit< tt; outside = refl; answered = h } }
@@ -79,24 +65,9 @@ either : (b : Bool) (x y : Machine) → Kept x → Kept y → Kept (cond b x y)
 either true x y h k = h
 either false x y h k = k
 
--- nor has a header's refusal
-abbrev Fair : Header → Type 0
-Fair (Wrong n) = Other n
-Fair (Right t) = Unit {0}
-
-begun : (x : Header) (s n : ℕ) (buffer : List ℕ) → Fair x → s < 4294967296 → Kept (begins x s n buffer)
-begun (Wrong number) s n buffer f h = answered number (cleared buffer) f
+begun : (x : Header) (s n : ℕ) (buffer : List ℕ) → wrongPasses notMore x ≡ true → s < 4294967296 → Kept (begins x s n buffer)
+begun (Wrong number) s n buffer f h = answered number (cleared buffer) (other number (not-true _ f))
 begun (Right t) s n buffer f h = inside t 0 n s start buffer h
-
-fair : (b : Block) (n : ℕ) (had : Table → ℕ) → Fair (headerOf b n had)
-fair Unknown n had = other 3 refl
-fair NotCarried n had = other 4 refl
-fair (Carried t) n had = go (not (eqb (n % sizeOf t) 0)) (ltb (mostOf t) (had t + n / sizeOf t))
-  where
-    go : (x y : Bool) → Fair (cond x (Wrong 5) (cond y (Wrong 6) (Right t)))
-    go true y = other 5 refl
-    go false true = other 6 refl
-    go false false = tt
 
 in-phase : (p : Phase) (l : Load) (buffer : List ℕ) (w : ℕ) → w < 4294967296 → Storable l → l .phase ≡ p → wordIn start w < 4294967296 → wordIn (l .stream) w < 4294967296
     → Kept (stepIn p l buffer w)
@@ -110,7 +81,7 @@ in-phase Sum l buffer w h o e z s =
     (answered (ruled (imageIn (marked buffer))) (cleared buffer) (ruled-other (imageIn (marked buffer))))))
     (either (not (eqb w (checksum (l .first ∷ l .second ∷ [])))) _ _ (answered 2 (cleared buffer) (other 2 refl))
     (begun (headerOf (blockOf (idOf (l .first))) (lengthOf (l .second)) (hadIn buffer)) (wordIn (l .stream) w) (lengthOf (l .second)) buffer
-    (fair (blockOf (idOf (l .first))) (lengthOf (l .second)) (hadIn buffer)) s))
+    (header-passes notMore (blockOf (idOf (l .first))) (lengthOf (l .second)) (hadIn buffer) refl refl refl refl) s))
 in-phase Data l buffer w h o e z s =
     either (eqb (l .due) 0) _ _ (either (not (eqb w (finished (l .block)))) _ _ (answered 7 (cleared buffer) (other 7 refl)) (between (wordIn (l .stream) w) _ s))
     (inside (l .table) (l .placed + 1) (l .due - 1) (wordIn (l .stream) w) (wordIn (l .block) w) _ s)

@@ -21,20 +21,20 @@ use Rattle.flat_loads.specs.Calls.{FlatWritten, WritesFlat, wroteFlat}
 use Rattle.flat_loads.specs.Through.{of-state}
 use Rattle.loads.specs.Refusals.{OneOf, this, later, RefusedWith, leaveAsFound}
 use Rattle.loads.specs.RefusalsLaws.{zero-not-found, refused-number, number-refused, refused-behind}
-use Rattle.loads.specs.Moves.{isTold, Way, untaken, repeats, runs, FlatWay, stateless, stated, Says, more, loaded, refused, WholeWay, unread, settles}
+use Rattle.loads.specs.Moves.{isTold, Way, untaken, repeats, runs, FlatWay, stateless, stated, LeftBy, more, loaded, refused, WholeWay, unread, settles}
 use Rattle.loads.specs.RunsLaws.{told-begun, run-answers}
 use Rattle.loads.specs.WaysLaws.{taken, run-told, way, flat-way}
 use Rattle.loads.specs.Wholes.{WholeLoad, WholeLoadFlat}
 use Rattle.loads.specs.WholesLaws.{whole-way, answer-behind}
 
 -- ---- what an answer says of the image
-says-zero : {answer : Answer} {buffer : List ℕ} → Says answer buffer → (answer ≡ More → ⊥) → (answer ≡ Loaded → ⊥) → imageIn buffer ≡ replicate imageWords 0
-says-zero (more e) h k = absurd (h refl)
-says-zero (loaded e) h k = absurd (k refl)
-says-zero (refused n e) h k = e
+left-zero : {answer : Answer} {buffer : List ℕ} → LeftBy answer buffer → (answer ≡ More → ⊥) → (answer ≡ Loaded → ⊥) → imageIn buffer ≡ replicate imageWords 0
+left-zero (more e) h k = absurd (h refl)
+left-zero (loaded e) h k = absurd (k refl)
+left-zero (refused n e) h k = e
 
-says-not-found : {answer : Answer} {buffer : List ℕ} → Says answer buffer → RefusedWith leaveAsFound answer → ⊥
-says-not-found (refused z e) o = zero-not-found z o
+left-not-found : {answer : Answer} {buffer : List ℕ} → LeftBy answer buffer → RefusedWith leaveAsFound answer → ⊥
+left-not-found (refused z e) o = zero-not-found z o
 
 -- no refusal is "more" or "loaded"
 not-more : {answer : Answer} {n : ℕ} → answer ≡ Refused n → answer ≡ More → ⊥
@@ -44,17 +44,30 @@ not-loaded : {answer : Answer} {n : ℕ} → answer ≡ Refused n → answer ≡
 not-loaded e q = let z : _≡_ {A = ℕ} 0 1 = cc in omega arith
 
 -- ---- a write
+told-31 : (l : Load) (buffer words : List ℕ) → tooShort buffer ≡ true → wrote l buffer words .answer ≡ Refused 31
+unfolding wrote
+told-31 l buffer words h = rw h refl
+
+told-30 : (l : Load) (buffer words : List ℕ) → tooShort buffer ≡ false → damaged l (imageIn buffer) ≡ true → wrote l buffer words .answer ≡ Refused 30
+unfolding wrote
+told-30 l buffer words h d = rw (h, d) refl
+
+told-32 : (l : Load) (buffer words : List ℕ) → tooShort buffer ≡ false → damaged l (imageIn buffer) ≡ false → outside (length words) ≡ true
+    → wrote l buffer words .answer ≡ Refused 32
+unfolding wrote
+told-32 l buffer words h d o = rw (h, d, o) refl
+
 module _ {l : Load} {buffer words : List ℕ} where
   same-by : {w : Written} → Way l buffer words w → RefusedWith leaveAsFound (w .answer) → (w .load ≡ l) × (w .buffer ≡ buffer)
   same-by (untaken n d) o = (refl, refl)
   same-by (repeats t) o = (refl, refl)
-  same-by (runs t room d out) o = absurd (says-not-found (run-answers l buffer words t room d (λ q. subst (RefusedWith leaveAsFound) q o)) o)
+  same-by (runs t room d out) o = absurd (left-not-found (run-answers l buffer words t room d (λ q. subst (RefusedWith leaveAsFound) q o)) o)
 
   zero-by : {w : Written} {n : ℕ} → Way l buffer words w → isTold (l .phase) ≡ false → w .answer ≡ Refused n → (OneOf n (30 ∷ 31 ∷ 32 ∷ []) → ⊥)
       → imageIn (w .buffer) ≡ replicate imageWords 0
   zero-by (untaken o d) u e h = absurd (h (subst (λ (a : Answer). OneOf (numberOf a) (30 ∷ 31 ∷ 32 ∷ [])) e o))
   zero-by (repeats t) u e h = absurd (false≢true (sym u ∙ t))
-  zero-by (runs t room d o) u e h = says-zero (run-answers l buffer words t room d (not-more e)) (not-more e) (not-loaded e)
+  zero-by (runs t room d o) u e h = left-zero (run-answers l buffer words t room d (not-more e)) (not-more e) (not-loaded e)
 
   never-30-by : {w : Written} → Way l buffer words w → begun (l .phase) ≡ false → w .answer ≡ Refused 30 → ⊥
   never-30-by (untaken n d) first e =
@@ -63,7 +76,7 @@ module _ {l : Load} {buffer words : List ℕ} where
       ∙ ap (λ (t : Bool). cond t (cond (overLimit (imageIn buffer)) true (overdueIn (l .phase) l (imageIn buffer))) false) first)
   never-30-by (repeats t) first e = true≢false (sym (told-begun (l .phase) t) ∙ first)
   never-30-by (runs t room d o) first e =
-      says-not-found (run-answers l buffer words t room d (not-more e)) (subst (RefusedWith leaveAsFound) (sym e) (later this))
+      left-not-found (run-answers l buffer words t room d (not-more e)) (subst (RefusedWith leaveAsFound) (sym e) (later this))
 
   unwritten-by : {w : Written} → Way l buffer words w → isTold (l .phase) ≡ true → (w .load ≡ l) × (w .buffer ≡ buffer)
   unwritten-by (untaken o d) told = (refl, refl)
@@ -71,6 +84,18 @@ module _ {l : Load} {buffer words : List ℕ} where
   unwritten-by (runs t room d o) told = absurd (false≢true (sym t ∙ told))
 
   module _ {r : Wrote} {after : List ℕ} (p : Writes l buffer words r after) where
+    -- "Order 31, 30, 32": "31: image buffer too short"
+    pub short-buffer-told-31 : tooShort buffer ≡ true → r .answer ≡ Refused 31
+    short-buffer-told-31 h = p .answer ∙ told-31 l buffer words h
+
+    -- "30: for a write to a load already begun, the image or load state holds a table count above its limit, or more words due than .."
+    pub damaged-load-told-30 : tooShort buffer ≡ false → damaged l (imageIn buffer) ≡ true → r .answer ≡ Refused 30
+    damaged-load-told-30 h d = p .answer ∙ told-30 l buffer words h d
+
+    -- "32: a write of 0 words or above 64"
+    pub empty-or-long-write-told-32 : tooShort buffer ≡ false → damaged l (imageIn buffer) ≡ false → outside (length words) ≡ true → r .answer ≡ Refused 32
+    empty-or-long-write-told-32 h d o = p .answer ∙ told-32 l buffer words h d o
+
     -- "9, 30, 31 and 32 leave everything as found"
     pub write-as-found : RefusedWith leaveAsFound (r .answer) → (r .load ≡ l) × (after ≡ buffer)
     write-as-found o = let s = same-by (way l buffer words) (subst (RefusedWith leaveAsFound) (p .answer) o) in (p .state ∙ s .0, p .kept ∙ s .1)
@@ -146,16 +171,16 @@ module _ {numbers buffer words : List ℕ} where
 module _ {buffer : List ℕ} where
   whole-same-by : {w : Whole} → WholeWay buffer w → RefusedWith leaveAsFound (w .answer) → w .buffer ≡ buffer
   whole-same-by (unread n) o = refl
-  whole-same-by (settles room kept says m) o = absurd (says-not-found says o)
+  whole-same-by (settles room kept says m) o = absurd (left-not-found says o)
 
   whole-zero-by : {w : Whole} → WholeWay buffer w → (w .answer ≡ Loaded → ⊥) → (RefusedWith (9 ∷ 31 ∷ []) (w .answer) → ⊥) → imageIn (w .buffer) ≡ replicate imageWords 0
   whole-zero-by (unread o) z h = absurd (h o)
-  whole-zero-by (settles room kept says m) z h = says-zero says m z
+  whole-zero-by (settles room kept says m) z h = left-zero says m z
 
   whole-never-30-by : {w : Whole} → WholeWay buffer w → w .answer ≡ Refused 30 → ⊥
   whole-never-30-by (unread this) e = let q : _≡_ {A = ℕ} 9 30 = ap numberOf e in omega arith
   whole-never-30-by (unread (later this)) e = let q : _≡_ {A = ℕ} 31 30 = ap numberOf e in omega arith
-  whole-never-30-by (settles room kept says m) e = says-not-found says (subst (RefusedWith leaveAsFound) (sym e) (later this))
+  whole-never-30-by (settles room kept says m) e = left-not-found says (subst (RefusedWith leaveAsFound) (sym e) (later this))
 
   module _ {answer : Answer} {after : List ℕ} (p : WholeLoad buffer answer after) where
     -- "9, 30, 31 and 32 leave everything as found"

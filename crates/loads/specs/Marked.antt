@@ -21,8 +21,8 @@ use Rattle.flat_loads.specs.Calls.{FlatWritten}
 use Rattle.loads.specs.Refusals.{OneOf, this, later, RefusedWith}
 use Rattle.loads.specs.RefusalsLaws.{refused-number, zero-loaded}
 use Rattle.image.specs.Standing.{Unloaded, IsLoaded}
-use Rattle.loads.specs.Moves.{RestKept, Way, untaken, repeats, runs, Says, more, loaded, refused, WholeWay, unread, settles}
-use Rattle.loads.specs.RunsLaws.{told-begun, untold-more, kept-run, zero-unmarked, not-zero, run-says, run-begun}
+use Rattle.loads.specs.Moves.{RestKept, Way, untaken, repeats, runs, LeftBy, more, loaded, refused, WholeWay, unread, settles}
+use Rattle.loads.specs.RunsLaws.{told-begun, untold-more, kept-run, zero-unmarked, not-zero, run-leaves, run-begun}
 use Rattle.loads.specs.WaysLaws.{way}
 use Rattle.loads.specs.Wholes.{WholeLoad, WholeLoadFlat}
 use Rattle.loads.specs.WholesLaws.{whole-way, answer-behind}
@@ -43,42 +43,42 @@ pub zero-image-not-loaded : notLoaded (replicate imageWords 0) ≡ true
 zero-image-not-loaded = zero-not-loaded (replicate imageWords 0) refl
 
 -- ---- what an answer says of the image
-says-unloaded : {answer : Answer} {buffer : List ℕ} → Says answer buffer → (answer ≡ Loaded → ⊥) → notLoaded (imageIn buffer) ≡ true
-says-unloaded {buffer = buffer} (more e) h = unmarked-not-loaded (imageIn buffer) e
-says-unloaded (loaded e) h = absurd (h refl)
-says-unloaded {buffer = buffer} (refused n e) h = zero-not-loaded (imageIn buffer) e
+left-unloaded : {answer : Answer} {buffer : List ℕ} → LeftBy answer buffer → (answer ≡ Loaded → ⊥) → notLoaded (imageIn buffer) ≡ true
+left-unloaded {buffer = buffer} (more e) h = unmarked-not-loaded (imageIn buffer) e
+left-unloaded (loaded e) h = absurd (h refl)
+left-unloaded {buffer = buffer} (refused n e) h = zero-not-loaded (imageIn buffer) e
 
-says-loaded : {answer : Answer} {buffer : List ℕ} → Says answer buffer → answer ≡ Loaded → notLoaded (imageIn buffer) ≡ false
-says-loaded (more e) h = absurd (let z : _≡_ {A = ℕ} 0 1 = cc in omega arith)
-says-loaded (loaded e) h = e
-says-loaded (refused n e) h = absurd (let z : _≡_ {A = ℕ} 0 1 = cc in omega arith)
+left-loaded : {answer : Answer} {buffer : List ℕ} → LeftBy answer buffer → answer ≡ Loaded → notLoaded (imageIn buffer) ≡ false
+left-loaded (more e) h = absurd (let z : _≡_ {A = ℕ} 0 1 = cc in omega arith)
+left-loaded (loaded e) h = e
+left-loaded (refused n e) h = absurd (let z : _≡_ {A = ℕ} 0 1 = cc in omega arith)
 
-says-unmarked : {answer : Answer} {buffer : List ℕ} → Says answer buffer → answer ≡ More → markOf (imageIn buffer) ≡ 0
-says-unmarked (more e) h = e
-says-unmarked (loaded e) h = absurd (let z : _≡_ {A = ℕ} 0 1 = cc in omega arith)
-says-unmarked (refused n e) h = absurd (let z : _≡_ {A = ℕ} 0 1 = cc in omega arith)
+left-unmarked : {answer : Answer} {buffer : List ℕ} → LeftBy answer buffer → answer ≡ More → markOf (imageIn buffer) ≡ 0
+left-unmarked (more e) h = e
+left-unmarked (loaded e) h = absurd (let z : _≡_ {A = ℕ} 0 1 = cc in omega arith)
+left-unmarked (refused n e) h = absurd (let z : _≡_ {A = ℕ} 0 1 = cc in omega arith)
 
-says-never-zero : {answer : Answer} {buffer : List ℕ} → Says answer buffer → answer ≡ Refused 0 → ⊥
-says-never-zero (more e) h = let z : _≡_ {A = ℕ} 0 1 = cc in omega arith
-says-never-zero (loaded e) h = let z : _≡_ {A = ℕ} 0 1 = cc in omega arith
-says-never-zero (refused {n} z e) h = not-zero n z (ap numberOf h)
+left-never-zero : {answer : Answer} {buffer : List ℕ} → LeftBy answer buffer → answer ≡ Refused 0 → ⊥
+left-never-zero (more e) h = let z : _≡_ {A = ℕ} 0 1 = cc in omega arith
+left-never-zero (loaded e) h = let z : _≡_ {A = ℕ} 0 1 = cc in omega arith
+left-never-zero (refused {n} z e) h = not-zero n z (ap numberOf h)
 
 -- ---- an answer was not taken, or it says what the image is, and the buffer has room
 data Spoke (ns : List ℕ) (answer : Answer) (buffer : List ℕ) : Type 0 where
   as-found : RefusedWith ns answer → Spoke ns answer buffer
-  spoke : tooShort buffer ≡ false → Says answer buffer → Spoke ns answer buffer
+  spoke : tooShort buffer ≡ false → LeftBy answer buffer → Spoke ns answer buffer
 
 unloaded : {ns : List ℕ} {answer : Answer} {buffer : List ℕ} → Spoke ns answer buffer → (answer ≡ Loaded → ⊥) → (RefusedWith ns answer → ⊥) → Unloaded buffer
 unloaded (as-found o) h k = absurd (k o)
-unloaded (spoke room s) h k = record { room = room; unmarked = says-unloaded s h }
+unloaded (spoke room s) h k = record { room = room; unmarked = left-unloaded s h }
 
 is-loaded : {ns : List ℕ} {answer : Answer} {buffer : List ℕ} → Spoke ns answer buffer → answer ≡ Loaded → IsLoaded buffer
 is-loaded {ns} (as-found o) h = absurd (subst (RefusedWith ns) h o)
-is-loaded (spoke room s) h = record { room = room; marked = says-loaded s h }
+is-loaded (spoke room s) h = record { room = room; marked = left-loaded s h }
 
 never-zero : {ns : List ℕ} {answer : Answer} {buffer : List ℕ} → (OneOf 0 ns → ⊥) → Spoke ns answer buffer → answer ≡ Refused 0 → ⊥
 never-zero {ns} none (as-found o) h = none (subst (RefusedWith ns) h o)
-never-zero none (spoke room s) h = says-never-zero s h
+never-zero none (spoke room s) h = left-never-zero s h
 
 with-room : {a b : List ℕ} → RestKept a b → imageWords ≤ length a → tooShort b ≡ false
 with-room {a} {b} k room = le-ltb (length b) imageWords (subst (λ (n : ℕ). imageWords ≤ n) (sym (k .long)) room)
@@ -129,7 +129,7 @@ flat-whole-load-loaded p = let a = answer-behind p in flat-loaded (λ o. lt-irre
 
 -- a load that has begun has room for its image, which is as the answer says
 abbrev Good : Load → List ℕ → Type 0
-Good l buffer = begun (l .phase) ≡ true → (tooShort buffer ≡ false) × Says (answerOf (l .phase)) buffer
+Good l buffer = begun (l .phase) ≡ true → (tooShort buffer ≡ false) × LeftBy (answerOf (l .phase)) buffer
 
 -- a write keeps this
 good-way : {l : Load} {buffer words : List ℕ} {w : Written} → Way l buffer words w → Good l buffer → Good (w .load) (w .buffer)
@@ -137,7 +137,7 @@ good-way (untaken o d) g = g
 good-way (repeats t) g = g
 good-way {l} {buffer} {words} (runs t room d o) g = λ b. (
   with-room (kept-run l buffer words room d) room,
-  run-says l buffer words t room d (λ begins. says-unmarked (g begins .1) (untold-more (l .phase) t)),
+  run-leaves l buffer words t room d (λ begins. left-unmarked (g begins .1) (untold-more (l .phase) t)),
 )
 
 -- and its answer is refused as found, or says what the image is
@@ -174,7 +174,7 @@ chain-unmarked p e = go (from-fresh p) e
   where
     go : {answer : Answer} {buffer : List ℕ} → Spoke (30 ∷ 31 ∷ 32 ∷ []) answer buffer → answer ≡ More → markOf (imageIn buffer) ≡ 0
     go (as-found o) q = absurd (subst (RefusedWith (30 ∷ 31 ∷ 32 ∷ [])) q o)
-    go (spoke room s) q = says-unmarked s q
+    go (spoke room s) q = left-unmarked s q
 
 -- the same for C and Rust, of 32-bit words
 module _ {numbers buffer c : List ℕ} {cs : List (List ℕ)} {x : FlatWritten} (fresh : FreshLoad numbers) (small : AllWords (c ∷ cs))

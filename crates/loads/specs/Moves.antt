@@ -58,12 +58,12 @@ pub data FlatWay (numbers buffer words : List ℕ) : FlatWritten → Type 0 wher
   stated : isLoad numbers ≡ true → FlatWay numbers buffer words (flattened numbers (wrote (loadIn numbers) buffer words))
 
 -- what an answer says of the image: at "more" it is not marked, at "loaded" it is loaded, and at a refusal it is zero
-pub data Says : Answer → List ℕ → Type 0 where
-  more : {buffer : List ℕ} → markOf (imageIn buffer) ≡ 0 → Says More buffer
-  loaded : {buffer : List ℕ} → notLoaded (imageIn buffer) ≡ false → Says Loaded buffer
-  refused : {n : ℕ} {buffer : List ℕ} → leavesZero n ≡ true → imageIn buffer ≡ replicate imageWords 0 → Says (Refused n) buffer
+pub data LeftBy : Answer → List ℕ → Type 0 where
+  more : {buffer : List ℕ} → markOf (imageIn buffer) ≡ 0 → LeftBy More buffer
+  loaded : {buffer : List ℕ} → notLoaded (imageIn buffer) ≡ false → LeftBy Loaded buffer
+  refused : {n : ℕ} {buffer : List ℕ} → leavesZero n ≡ true → imageIn buffer ≡ replicate imageWords 0 → LeftBy (Refused n) buffer
 
 -- a whole load: refused with everything as found; or an answer other than "more" that says what the image is
 pub data WholeWay (buffer : List ℕ) : Whole → Type 0 where
   unread : {n : ℕ} → OneOf n (9 ∷ 31 ∷ []) → WholeWay buffer (asFound n buffer)
-  settles : {w : Whole} → imageWords ≤ length buffer → RestKept buffer (w .buffer) → Says (w .answer) (w .buffer) → (w .answer ≡ More → ⊥) → WholeWay buffer w
+  settles : {w : Whole} → imageWords ≤ length buffer → RestKept buffer (w .buffer) → LeftBy (w .answer) (w .buffer) → (w .answer ≡ More → ⊥) → WholeWay buffer w

@@ -1,22 +1,18 @@
 -- Every word moves a load that has told no answer in one of these ways, so a run keeps what each of them keeps.
 use mathlib.Core.Path.{_≡_, refl, sym, _∙_, ap, subst}
-use mathlib.Core.Bool.{Bool, true, false, cond, not, _&&_, true≢false, false≢true}
+use mathlib.Core.Bool.{Bool, true, false, cond, not, true≢false, false≢true}
 use mathlib.Core.List.{List, [], _∷_}
-use Prim.Native.Nat.{ℕ, _+_, _/_, _%_}
+use Prim.Native.Nat.{ℕ, _+_, _/_}
 use native.Mathlib.Nat.{pos-of-ne-zero, lt-of-lt-of-le}
-use lib.Dec.{ltb, eqb, lit≤}
+use lib.Dec.{eqb, lit≤}
 use borrow.Author.Tests.{eqb-true, eqb-false}
-use Rattle.laws.specs.Chain.{both-passed}
 use Rattle.crc.specs.Crc.{wordIn, checksum, finished}
-use Rattle.image.specs.Rows.{sizeOf, mostOf}
+use Rattle.image.specs.Rows.{sizeOf}
 use Rattle.image.specs.RowLaws.{count-before-mark}
 use Rattle.image.specs.Blocks.{blockOf}
 use Rattle.image.specs.Layout.{imageIn, countAt, marked}
-use Rattle.image.specs.declared.tables.Table.{Table}
-use Rattle.image.specs.declared.tables.Block.{Block}
-use Rattle.image.specs.declared.tables.Block.the-variants.{Carried, NotCarried, Unknown}
-use Rattle.rules.specs.Rules.{Rule, rules, firstOf, ruled}
-use Rattle.stream.specs.Header.{device, idOf, lengthOf, headerOf}
+use Rattle.rules.specs.Rules.{rules, firstOf, ruled}
+use Rattle.stream.specs.Header.{device, idOf, lengthOf, headerOf, wrongPasses}
 use Rattle.stream.specs.declared.Header.{Header}
 use Rattle.stream.specs.declared.Header.the-variants.{Wrong, Right}
 use Rattle.stream.specs.declared.Load.{Load}
@@ -27,45 +23,16 @@ use Rattle.stream.specs.Fine.{Roomy, Fine}
 use Rattle.stream.specs.FineLaws.{placed-inside, step-fine}
 use Rattle.loads.specs.Refusals.{leavesZero}
 use Rattle.loads.specs.Moves.{isTold, Waiting, Move, waits, stores, refuses, loads}
+use Rattle.rules.specs.NumbersLaws.{first-holds}
+use Rattle.stream.specs.Headers.{header-passes}
 
 -- ---- the numbers that a word can be told
-
--- a number that some rules give, by one computed test of them all
-abbrev allNumbers : (ℕ → Bool) → List Rule → Bool
-allNumbers p [] = true
-allNumbers p (r ∷ rs) = p (r .number) && allNumbers p rs
-
-first-holds : (p : ℕ → Bool) (rs : List Rule) (image : List ℕ) → p 0 ≡ true → allNumbers p rs ≡ true → p (firstOf rs image) ≡ true
-first-holds p [] image z e = z
-first-holds p (r ∷ rs) image z e = go (r .broken image) (first-holds p rs image z (each .1))
-  where
-    each : (p (r .number) ≡ true) × (allNumbers p rs ≡ true)
-    each = both-passed (p (r .number)) (allNumbers p rs) e
-
-    go : (t : Bool) → p (firstOf rs image) ≡ true → p (cond t (r .number) (firstOf rs image)) ≡ true
-    go true h = each .0
-    go false h = h
 
 rule-number : (image : List ℕ) → eqb (ruled image) 0 ≡ false → leavesZero (ruled image) ≡ true
 unfolding ruled
 rule-number image e =
     sym (ap (λ (t : Bool). cond t true (leavesZero (firstOf rules image))) e)
     ∙ first-holds (λ n. cond (eqb n 0) true (leavesZero n)) rules image refl refl
-
--- 3 to 6, or a table
-abbrev numberIn : Header → Bool
-numberIn (Wrong n) = leavesZero n
-numberIn (Right t) = true
-
-header-number : (b : Block) (n : ℕ) (had : Table → ℕ) → numberIn (headerOf b n had) ≡ true
-header-number Unknown n had = refl
-header-number NotCarried n had = refl
-header-number (Carried t) n had = go (not (eqb (n % sizeOf t) 0)) (ltb (mostOf t) (had t + n / sizeOf t))
-  where
-    go : (x y : Bool) → numberIn (cond x (Wrong 5) (cond y (Wrong 6) (Right t))) ≡ true
-    go true y = refl
-    go false true = refl
-    go false false = refl
 
 -- ---- one word
 either : {m : Machine} (t : Bool) (a b : Machine) → (t ≡ true → Move m a) → (t ≡ false → Move m b) → Move m (cond t a b)
@@ -85,9 +52,9 @@ in-phase Sum l buffer w e r =
     (λ _. either (eqb (ruled (imageIn (marked buffer))) 0) _ _ (λ q. loads (eqb-true _ 0 q)) (λ q. refuses (rule-number (imageIn (marked buffer)) q))))
     (λ _. either (not (eqb w (checksum (l .first ∷ l .second ∷ [])))) _ _ (λ _. refuses refl)
     (λ _. headed (headerOf (blockOf (idOf (l .first))) (lengthOf (l .second)) (hadIn buffer))
-    (header-number (blockOf (idOf (l .first))) (lengthOf (l .second)) (hadIn buffer))))
+    (header-passes leavesZero (blockOf (idOf (l .first))) (lengthOf (l .second)) (hadIn buffer) refl refl refl refl)))
   where
-    headed : (x : Header) → numberIn x ≡ true → Move (at l buffer) (begins x (wordIn (l .stream) w) (lengthOf (l .second)) buffer)
+    headed : (x : Header) → wrongPasses leavesZero x ≡ true → Move (at l buffer) (begins x (wordIn (l .stream) w) (lengthOf (l .second)) buffer)
     headed (Wrong n) q = refuses q
     headed (Right t) q = waits (waiting refl refl)
 in-phase Data l buffer w e r =

@@ -17,7 +17,7 @@ use Rattle.loads.specs.RunsLaws.{kept-run}
 use Rattle.loads.specs.WaysLaws.{way, flat-way}
 use Rattle.loads.specs.Wholes.{WholeLoad, WholeLoadFlat}
 use Rattle.loads.specs.WholesLaws.{whole-way, answer-behind}
-use Rattle.loads.specs.Chains.{done, call, WriteChain, WriteChainFlat}
+use Rattle.loads.specs.Chains.{done, call, WriteChain}
 
 same : (buffer : List ℕ) → RestKept buffer buffer
 same buffer = record { rest = refl; long = refl }
@@ -58,11 +58,6 @@ on p q = record { rest = q .rest ∙ p .rest; long = q .long ∙ p .long }
 pub chain-keeps-the-rest : {w v : Written} {cs : List (List ℕ)} → WriteChain w cs v → RestKept (w .buffer) (v .buffer)
 chain-keeps-the-rest {w} done = same (w .buffer)
 chain-keeps-the-rest (call p q) = on (write-keeps-the-rest p) (chain-keeps-the-rest q)
-
--- and none for C and Rust
-pub flat-chain-keeps-the-rest : {w v : FlatWritten} {cs : List (List ℕ)} → WriteChainFlat w cs v → RestKept (w .buffer) (v .buffer)
-flat-chain-keeps-the-rest {w} done = same (w .buffer)
-flat-chain-keeps-the-rest (call p q) = on (flat-write-keeps-the-rest p) (flat-chain-keeps-the-rest q)
 
 -- so a buffer with room for the image has it still
 pub room-kept : {buffer after : List ℕ} → imageWords ≤ length buffer → RestKept buffer after → imageWords ≤ length after

@@ -26,7 +26,7 @@ use Rattle.stream.specs.Fine.{Roomy, Fine}
 use Rattle.stream.specs.FineLaws.{cleared-fine, mark-kept, step-fine, undamaged-fine}
 use Rattle.stream.specs.EndsLaws.{whole}
 use Rattle.loads.specs.Refusals.{leavesZero}
-use Rattle.loads.specs.Moves.{isTold, RestKept, Move, waits, stores, refuses, loads, Says}
+use Rattle.loads.specs.Moves.{isTold, RestKept, Move, waits, stores, refuses, loads, LeftBy}
 use Rattle.loads.specs.Moves as moves
 use Rattle.loads.specs.MovesLaws.{step-goes, run-keeps}
 
@@ -143,18 +143,18 @@ pub not-zero : (n : ℕ) → leavesZero n ≡ true → n ≡ 0 → ⊥
 not-zero n h e = false≢true (sym (ap leavesZero e) ∙ h)
 
 -- a refusal says that the image is zero
-pub refusal-says : (n : ℕ) (buffer : List ℕ) → leavesZero n ≡ true → Says (numbered n) (cleared buffer)
-refusal-says n buffer h =
-    subst (λ (t : Bool). Says (cond t Loaded (Refused n)) (cleared buffer)) (sym (ne-eqb n 0 (not-zero n h))) (moves.refused h (image-cleared buffer))
+pub refusal-leaves : (n : ℕ) (buffer : List ℕ) → leavesZero n ≡ true → LeftBy (numbered n) (cleared buffer)
+refusal-leaves n buffer h =
+    subst (λ (t : Bool). LeftBy (cond t Loaded (Refused n)) (cleared buffer)) (sym (ne-eqb n 0 (not-zero n h))) (moves.refused h (image-cleared buffer))
 
 -- a load that has told an answer said what its image is
 abbrev Spoken : Machine → Type 0
-Spoken m = isTold (m .load .phase) ≡ true → Says (answerOf (m .load .phase)) (m .buffer)
+Spoken m = isTold (m .load .phase) ≡ true → LeftBy (answerOf (m .load .phase)) (m .buffer)
 
 spoken-move : {m n : Machine} → Fine m → Move m n → Spoken n
 spoken-move f (waits w) t = absurd (false≢true (sym (w .untold) ∙ t))
 spoken-move f (stores i v w h) t = absurd (false≢true (sym (w .untold) ∙ t))
-spoken-move {m} f (refuses {n} h) t = refusal-says n (m .buffer) h
+spoken-move {m} f (refuses {n} h) t = refusal-leaves n (m .buffer) h
 spoken-move {m} f (loads h) t = moves.loaded (marked-loaded m f h)
 
 -- and the image of one that has not is not marked
@@ -189,27 +189,27 @@ module _ (l : Load) (buffer words : List ℕ) (untold : isTold (l .phase) ≡ fa
   fine = opened-fine l buffer room undamaged
 
   -- the answer that it tells says what the image is
-  pub run-spoken : isTold (run from words .load .phase) ≡ true → Says (answerOf (run from words .load .phase)) (run from words .buffer)
+  pub run-spoken : isTold (run from words .load .phase) ≡ true → LeftBy (answerOf (run from words .load .phase)) (run from words .buffer)
   run-spoken = run-keeps Spoken (λ m n f t v p. spoken-move f v) from words fine (λ t. absurd (false≢true (sym untold ∙ t)))
 
   -- by whether it has told one
-  either-way : (isTold (run from words .load .phase) ≡ false → Says (answerOf (run from words .load .phase)) (run from words .buffer))
-      → Says (answerOf (run from words .load .phase)) (run from words .buffer)
+  either-way : (isTold (run from words .load .phase) ≡ false → LeftBy (answerOf (run from words .load .phase)) (run from words .buffer))
+      → LeftBy (answerOf (run from words .load .phase)) (run from words .buffer)
   either-way untold-says = go (isTold (run from words .load .phase)) refl
     where
-      go : (t : Bool) → isTold (run from words .load .phase) ≡ t → Says (answerOf (run from words .load .phase)) (run from words .buffer)
+      go : (t : Bool) → isTold (run from words .load .phase) ≡ t → LeftBy (answerOf (run from words .load .phase)) (run from words .buffer)
       go true e = run-spoken e
       go false e = untold-says e
 
   -- so an answer other than "more" does
-  pub run-answers : (answerOf (run from words .load .phase) ≡ More → ⊥) → Says (answerOf (run from words .load .phase)) (run from words .buffer)
+  pub run-answers : (answerOf (run from words .load .phase) ≡ More → ⊥) → LeftBy (answerOf (run from words .load .phase)) (run from words .buffer)
   run-answers h = either-way (λ e. absurd (h (untold-more (run from words .load .phase) e)))
 
   -- and "more" does where the image was not marked
-  pub run-says : (begun (l .phase) ≡ true → markOf (imageIn buffer) ≡ 0) → Says (answerOf (run from words .load .phase)) (run from words .buffer)
-  run-says unmarked =
+  pub run-leaves : (begun (l .phase) ≡ true → markOf (imageIn buffer) ≡ 0) → LeftBy (answerOf (run from words .load .phase)) (run from words .buffer)
+  run-leaves unmarked =
       either-way
-      (λ e. subst (λ (a : Answer). Says a (run from words .buffer)) (sym (untold-more (run from words .load .phase) e))
+      (λ e. subst (λ (a : Answer). LeftBy a (run from words .buffer)) (sym (untold-more (run from words .load .phase) e))
       (moves.more (run-keeps Unmarked (λ m n f t v p. unmarked-move t v p) from words fine (λ t. start (begun (l .phase)) refl) e)))
     where
       start : (t : Bool) → begun (l .phase) ≡ t → markOf (imageIn (cond t buffer (cleared buffer))) ≡ 0

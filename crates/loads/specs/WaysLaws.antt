@@ -23,9 +23,9 @@ use Rattle.flat_numbers.specs.Flat.{isLoad}
 use Rattle.flat_loads.specs.Calls.{FlatWritten, asFoundFlat, wroteFlat}
 use Rattle.flat_loads.specs.Through.{no-state, of-state}
 use Rattle.loads.specs.Refusals.{this, later}
-use Rattle.loads.specs.Moves.{isTold, RestKept, Way, untaken, repeats, runs, FlatWay, stateless, stated, Says, WholeWay, unread, settles}
+use Rattle.loads.specs.Moves.{isTold, RestKept, Way, untaken, repeats, runs, FlatWay, stateless, stated, LeftBy, WholeWay, unread, settles}
 use Rattle.loads.specs.MovesLaws.{run-stays}
-use Rattle.loads.specs.RunsLaws.{told-begun, as-begun, opened-fine, kept-cleared, kept-run, refusal-says, run-spoken}
+use Rattle.loads.specs.RunsLaws.{told-begun, as-begun, opened-fine, kept-cleared, kept-run, refusal-leaves, run-spoken}
 
 -- ---- writes
 
@@ -96,7 +96,7 @@ settled-way buffer words room = subst (λ (w : Whole). WholeWay buffer w) (whole
         go false q = let z : _≡_ {A = ℕ} 0 1 = cc in omega arith
 
     cut-way : WholeWay buffer (record { answer = numbered 10; buffer = cleared (m .buffer) })
-    cut-way = settles room (kept-cleared buffer (m .buffer) (fine-end .whole) kept) (refusal-says 10 (m .buffer) refl) (never-more 10)
+    cut-way = settles room (kept-cleared buffer (m .buffer) (fine-end .whole) kept) (refusal-leaves 10 (m .buffer) refl) (never-more 10)
 
     by : (p : Phase) → m .load .phase ≡ p → WholeWay buffer (settledIn p (m .buffer))
     by Device e = cut-way
@@ -105,7 +105,7 @@ settled-way buffer words room = subst (λ (w : Whole). WholeWay buffer w) (whole
     by Sum e = cut-way
     by Data e = cut-way
     by (Told n) e =
-        settles room kept (subst (λ (p : Phase). Says (answerOf p) (m .buffer)) e (run-spoken fresh buffer words refl room refl (ap isTold e))) (never-more n)
+        settles room kept (subst (λ (p : Phase). LeftBy (answerOf p) (m .buffer)) e (run-spoken fresh buffer words refl room refl (ap isTold e))) (never-more n)
 
 -- every whole load of words goes one of its ways
 pub words-way : (buffer words : List ℕ) → WholeWay buffer (loadedWords buffer words)

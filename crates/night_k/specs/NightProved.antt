@@ -35,8 +35,8 @@ use Rattle.flat_answers.specs.declared.FlatTile.{FlatTile}
 use Rattle.flat_answers.specs.AnswersLaws.{shown-as}
 use Rattle.flat_numbers.specs.Flat.{numberOf}
 use Rattle.flat_loads.specs.Calls.{LoadsWords}
-use Rattle.nights.specs.Nights.{Said, verdict, answer, Night, NightOf, NightFlat, saidOf, Says}
-use Rattle.nights.specs.NightLaws.{says-of, says-flat, fresh-run-is}
+use Rattle.nights.specs.Nights.{Said, verdict, answer, Night, NightOf, NightFlat, definedAnswers, AsDefined}
+use Rattle.nights.specs.NightLaws.{as-defined, as-defined-flat, fresh-run-is}
 use Rattle.image.specs.Standing.{IsLoaded}
 use Rattle.records.specs.OfK.{listOfK}
 use Rattle.night_k.specs.List.{eventsIn}
@@ -66,7 +66,7 @@ bits-of-K = (
 module _ {Verdicts Answers : Type 0} (asVerdict : Verdict → Verdicts) (asAnswer : ℕ → Answers) (buffer : List ℕ) where
   -- the definitions say this to a history from row g on, and leave row z
   record Tells (g : List ℕ) (es : List Event) (said : List (Said Verdicts Answers)) (z : List ℕ) : Type 0 where
-    says : saidOf asVerdict asAnswer buffer g es ≡ said
+    says : definedAnswers asVerdict asAnswer buffer g es ≡ said
     leaves : after buffer g es ≡ z
 
   judges : {g h z : List ℕ} {port time : ℕ} {bytes : List ℕ} {v : Verdict} {es : List Event} {said : List (Said Verdicts Answers)}
@@ -76,7 +76,7 @@ module _ {Verdicts Answers : Type 0} (asVerdict : Verdict → Verdicts) (asAnswe
   judges {v = v} {es = es} e t =
       record {
         says =
-            ap (λ (j : Judged). verdict (asVerdict (j .verdict)) ∷ saidOf asVerdict asAnswer buffer (j .row) es) e
+            ap (λ (j : Judged). verdict (asVerdict (j .verdict)) ∷ definedAnswers asVerdict asAnswer buffer (j .row) es) e
             ∙ ap (λ (x : List (Said Verdicts Answers)). verdict (asVerdict v) ∷ x) (t .says);
         leaves = ap (λ (j : Judged). after buffer (j .row) es) e ∙ t .leaves;
       }
@@ -88,8 +88,8 @@ module _ {Verdicts Answers : Type 0} (asVerdict : Verdict → Verdicts) (asAnswe
   releases {g} {partition = partition} {n = n} {es = es} e q t =
       record {
         says =
-            ap (λ (m : ℕ). answer (asAnswer m) ∷ saidOf asVerdict asAnswer buffer (released buffer g partition) es) e
-            ∙ ap (λ (x : List ℕ). answer (asAnswer n) ∷ saidOf asVerdict asAnswer buffer x es) q
+            ap (λ (m : ℕ). answer (asAnswer m) ∷ definedAnswers asVerdict asAnswer buffer (released buffer g partition) es) e
+            ∙ ap (λ (x : List ℕ). answer (asAnswer n) ∷ definedAnswers asVerdict asAnswer buffer x es) q
             ∙ ap (λ (x : List (Said Verdicts Answers)). answer (asAnswer n) ∷ x) (t .says);
         leaves = ap (λ (x : List ℕ). after buffer x es) q ∙ t .leaves;
       }
@@ -103,7 +103,7 @@ module _ {Verdicts Answers : Type 0} (asVerdict : Verdict → Verdicts) (asAnswe
 
 module _ {Verdicts Answers Tiles : Type 0} {asVerdict : Verdict → Verdicts} {asAnswer : ℕ → Answers} {asTile : Asked → Tiles} {buffer : List ℕ}
     {Fresh : Answers → List ℕ → Type 0} {Judge : List ℕ → ℕ → ℕ → List ℕ → Verdicts → List ℕ → Type 0} {Release : List ℕ → ℕ → Answers → List ℕ → Type 0}
-    {Tile : List ℕ → ℕ → Tiles → Type 0} (says : Says asVerdict asAnswer asTile buffer Fresh Judge Release Tile) (l : IsLoaded buffer) (k : IsK (imageIn buffer))
+    {Tile : List ℕ → ℕ → Tiles → Type 0} (says : AsDefined asVerdict asAnswer asTile buffer Fresh Judge Release Tile) (l : IsLoaded buffer) (k : IsK (imageIn buffer))
     (Shows : ℕ → ℕ → Tiles → Type 0) (asShares : (x y : Float) (s o : ℕ) → Bits x s → Bits y o → Shows s o (asTile (Shown (Shares x y)))) where
   -- the output, in the entries' own form
   output : {first : Answers} {g z : List ℕ} {said : List (Said Verdicts Answers)} {tile : ℕ → Tiles}
@@ -146,7 +146,7 @@ module _ (buffer : List ℕ) (h : HoldsK buffer) where
       → NightOf buffer (eventsIn listOfK) first g said z tile
       → OutputOf first said z tile
   night-under-K =
-      output (says-of buffer) (holds-loaded buffer h) (holds-fields buffer h) ShowsBits
+      output (as-defined buffer) (holds-loaded buffer h) (holds-fields buffer h) ShowsBits
       (λ x y s o p q. record { frame-share = x; octet-share = y; whole = refl; share-bits = p .are; octet-bits = q .are })
 
   -- and at the entries for C and Rust, by kinds and numbers
@@ -154,7 +154,7 @@ module _ (buffer : List ℕ) (h : HoldsK buffer) where
       → NightFlat buffer (eventsIn listOfK) first g said z tile
       → OutputFlat first said z tile
   night-under-K-flat =
-      output (says-flat buffer) (holds-loaded buffer h) (holds-fields buffer h) ShowsNumbers
+      output (as-defined-flat buffer) (holds-loaded buffer h) (holds-fields buffer h) ShowsNumbers
       (λ x y s o p q. shown-as _ _ _ _ (bits x s p) (bits y o q))
     where
       bits : (x : Float) (n : ℕ) → Bits x n → bitsOf x ≡ n

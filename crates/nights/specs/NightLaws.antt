@@ -25,11 +25,11 @@ use Rattle.tile.specs.TilesLaws.{same-tile}
 use Rattle.kept.specs.History.{Event, frame, release, step, after}
 use Rattle.flat_answers.specs.Answers.{flatVerdict, flatTile}
 use Rattle.flat_frames.specs.Frames.{FreshensFlat, JudgesFlat, ReleasesFlat, TilesFlat}
-use Rattle.nights.specs.Nights.{Said, verdict, answer, Run, end, judges, releases, Night, saidTo, saidOf, Says, SameNight, Alike, AlikeFlat}
+use Rattle.nights.specs.Nights.{Said, verdict, answer, Run, end, judges, releases, Night, definedAnswer, definedAnswers, AsDefined, SameNight, Alike, AlikeFlat}
 
 -- Rattle's entries say it as it is
-pub says-of : (buffer : List ℕ) → Says (λ (v : Verdict). v) answerOf (λ (t : Asked). t) buffer (Freshened buffer) (Judges buffer) (Released buffer) (Tiled buffer)
-says-of buffer =
+pub as-defined : (buffer : List ℕ) → AsDefined (λ (v : Verdict). v) answerOf (λ (t : Asked). t) buffer (Freshened buffer) (Judges buffer) (Released buffer) (Tiled buffer)
+as-defined buffer =
     record {
       fresh = λ a g p. (p .answer, p .row);
       judge = λ g port time bytes v h p. (p .verdict, p .row);
@@ -38,8 +38,8 @@ says-of buffer =
     }
 
 -- those for C and Rust by its numbers
-pub says-flat : (buffer : List ℕ) → Says flatVerdict (λ (n : ℕ). n) flatTile buffer (FreshensFlat buffer) (JudgesFlat buffer) (ReleasesFlat buffer) (TilesFlat buffer)
-says-flat buffer =
+pub as-defined-flat : (buffer : List ℕ) → AsDefined flatVerdict (λ (n : ℕ). n) flatTile buffer (FreshensFlat buffer) (JudgesFlat buffer) (ReleasesFlat buffer) (TilesFlat buffer)
+as-defined-flat buffer =
     record {
       fresh = λ a g p. (p .number, p .row);
       judge = λ g port time bytes v h p. (p .verdict, p .row);
@@ -53,21 +53,21 @@ not-refused buffer g p = sym (numbered (unloaded buffer)) ∙ ap numberOf (sym (
 
 module _ {Verdicts Answers Tiles : Type 0} {asVerdict : Verdict → Verdicts} {asAnswer : ℕ → Answers} {asTile : Asked → Tiles} {buffer : List ℕ}
     {Fresh : Answers → List ℕ → Type 0} {Judge : List ℕ → ℕ → ℕ → List ℕ → Verdicts → List ℕ → Type 0} {Release : List ℕ → ℕ → Answers → List ℕ → Type 0}
-    {Tile : List ℕ → ℕ → Tiles → Type 0} (says : Says asVerdict asAnswer asTile buffer Fresh Judge Release Tile) where
+    {Tile : List ℕ → ℕ → Tiles → Type 0} (says : AsDefined asVerdict asAnswer asTile buffer Fresh Judge Release Tile) where
   -- one event more, answered x with row h
-  next : (g h z : List ℕ) (e : Event) (es : List Event) (said : List (Said Verdicts Answers)) (x : Said Verdicts Answers) → x ≡ saidTo asVerdict asAnswer buffer g e
+  next : (g h z : List ℕ) (e : Event) (es : List Event) (said : List (Said Verdicts Answers)) (x : Said Verdicts Answers) → x ≡ definedAnswer asVerdict asAnswer buffer g e
       → h ≡ step buffer g e
-      → (said ≡ saidOf asVerdict asAnswer buffer h es) × (z ≡ after buffer h es)
-      → (x ∷ said ≡ saidOf asVerdict asAnswer buffer g (e ∷ es)) × (z ≡ after buffer g (e ∷ es))
+      → (said ≡ definedAnswers asVerdict asAnswer buffer h es) × (z ≡ after buffer h es)
+      → (x ∷ said ≡ definedAnswers asVerdict asAnswer buffer g (e ∷ es)) × (z ≡ after buffer g (e ∷ es))
   next g h z e es said x p q i = (
     ap (λ (y : Said Verdicts Answers). y ∷ said) p
-        ∙ ap (λ (l : List (Said Verdicts Answers)). saidTo asVerdict asAnswer buffer g e ∷ l) (i .0 ∙ ap (λ (y : List ℕ). saidOf asVerdict asAnswer buffer y es) q),
+        ∙ ap (λ (l : List (Said Verdicts Answers)). definedAnswer asVerdict asAnswer buffer g e ∷ l) (i .0 ∙ ap (λ (y : List ℕ). definedAnswers asVerdict asAnswer buffer y es) q),
     i .1 ∙ ap (λ (y : List ℕ). after buffer y es) q,
   )
 
   -- a permitted run comes to one thing: what the definitions say, and the row that they leave
   pub run-is : {g z : List ℕ} {es : List Event} {said : List (Said Verdicts Answers)} → Run Judge Release g es said z
-      → (said ≡ saidOf asVerdict asAnswer buffer g es) × (z ≡ after buffer g es)
+      → (said ≡ definedAnswers asVerdict asAnswer buffer g es) × (z ≡ after buffer g es)
   run-is end = (refl, refl)
   run-is (judges {g} {h} {z} {port} {time} {bytes} {v} {es} {said} p r) =
       let s = says .judge g port time bytes v h p in
@@ -79,16 +79,16 @@ module _ {Verdicts Answers Tiles : Type 0} {asVerdict : Verdict → Verdicts} {a
   -- from a fresh ledger that was not refused
   pub fresh-run-is : {es : List Event} {first : Answers} {g z : List ℕ} {said : List (Said Verdicts Answers)} → unloaded buffer ≡ 0 → Fresh first g
       → Run Judge Release g es said z
-      → (said ≡ saidOf asVerdict asAnswer buffer (freshOf (imageIn buffer)) es) × (z ≡ after buffer (freshOf (imageIn buffer)) es)
+      → (said ≡ definedAnswers asVerdict asAnswer buffer (freshOf (imageIn buffer)) es) × (z ≡ after buffer (freshOf (imageIn buffer)) es)
   fresh-run-is {es} {first} {g} given f r =
       let begun : g ≡ freshOf (imageIn buffer) = says .fresh first g f .1 ∙ rw given in
       let i = run-is r in
-      (i .0 ∙ ap (λ (x : List ℕ). saidOf asVerdict asAnswer buffer x es) begun, i .1 ∙ ap (λ (x : List ℕ). after buffer x es) begun)
+      (i .0 ∙ ap (λ (x : List ℕ). definedAnswers asVerdict asAnswer buffer x es) begun, i .1 ∙ ap (λ (x : List ℕ). after buffer x es) begun)
 
   -- and so does a night
   night-is : {es : List Event} {first : Answers} {g z : List ℕ} {said : List (Said Verdicts Answers)} {tile : ℕ → Tiles}
       → Night Fresh Judge Release Tile es first g said z tile
-      → SameNight first (asAnswer (unloaded buffer)) g (freshened buffer) said (saidOf asVerdict asAnswer buffer (freshened buffer) es) z (after buffer (freshened buffer) es)
+      → SameNight first (asAnswer (unloaded buffer)) g (freshened buffer) said (definedAnswers asVerdict asAnswer buffer (freshened buffer) es) z (after buffer (freshened buffer) es)
       tile (λ p. asTile (askedOf buffer (after buffer (freshened buffer) es) p))
   night-is {es} {first} {g} {z} {said} {tile} n =
       let f = says .fresh first g (n .fresh) in
@@ -97,7 +97,7 @@ module _ {Verdicts Answers Tiles : Type 0} {asVerdict : Verdict → Verdicts} {a
       record {
         fresh = f .0;
         begun = f .1;
-        answers = r .0 ∙ ap (λ (x : List ℕ). saidOf asVerdict asAnswer buffer x es) (f .1);
+        answers = r .0 ∙ ap (λ (x : List ℕ). definedAnswers asVerdict asAnswer buffer x es) (f .1);
         row = last;
         tiles = λ p h. says .tile z p (tile p) (n .tiles p h) ∙ ap (λ (x : List ℕ). asTile (askedOf buffer x p)) last;
       }
@@ -123,20 +123,20 @@ module _ (a b : List ℕ) (long : tooShort a ≡ tooShort b) (image : imageIn a 
   same-after g (e ∷ es) = ap (λ (x : List ℕ). after a x es) (same-step g e) ∙ same-after (step b g e) es
 
   module _ {Verdicts Answers : Type 0} (asVerdict : Verdict → Verdicts) (asAnswer : ℕ → Answers) where
-    same-told : (g : List ℕ) (e : Event) → saidTo asVerdict asAnswer a g e ≡ saidTo asVerdict asAnswer b g e
+    same-told : (g : List ℕ) (e : Event) → definedAnswer asVerdict asAnswer a g e ≡ definedAnswer asVerdict asAnswer b g e
     same-told g (frame port time bytes) = ap (λ (j : Judged). verdict (asVerdict (j .verdict))) (same-judgement a b long image g port time bytes)
     same-told g (release partition) = ap (λ (n : ℕ). answer (asAnswer n)) (same-refusal a b long image g partition)
 
-    same-said : (g : List ℕ) (es : List Event) → saidOf asVerdict asAnswer a g es ≡ saidOf asVerdict asAnswer b g es
+    same-said : (g : List ℕ) (es : List Event) → definedAnswers asVerdict asAnswer a g es ≡ definedAnswers asVerdict asAnswer b g es
     same-said g [] = refl
     same-said g (e ∷ es) =
-        ap (λ (x : Said Verdicts Answers). x ∷ saidOf asVerdict asAnswer a (step a g e) es) (same-told g e)
-        ∙ ap (λ (l : List (Said Verdicts Answers)). saidTo asVerdict asAnswer b g e ∷ l)
-        (ap (λ (x : List ℕ). saidOf asVerdict asAnswer a x es) (same-step g e) ∙ same-said (step b g e) es)
+        ap (λ (x : Said Verdicts Answers). x ∷ definedAnswers asVerdict asAnswer a (step a g e) es) (same-told g e)
+        ∙ ap (λ (l : List (Said Verdicts Answers)). definedAnswer asVerdict asAnswer b g e ∷ l)
+        (ap (λ (x : List ℕ). definedAnswers asVerdict asAnswer a x es) (same-step g e) ∙ same-said (step b g e) es)
 
     module _ {Tiles : Type 0} (asTile : Asked → Tiles) where
-      same-defined : (es : List Event) → SameNight (asAnswer (unloaded a)) (asAnswer (unloaded b)) (freshened a) (freshened b) (saidOf asVerdict asAnswer a (freshened a) es)
-          (saidOf asVerdict asAnswer b (freshened b) es)
+      same-defined : (es : List Event) → SameNight (asAnswer (unloaded a)) (asAnswer (unloaded b)) (freshened a) (freshened b) (definedAnswers asVerdict asAnswer a (freshened a) es)
+          (definedAnswers asVerdict asAnswer b (freshened b) es)
           (after a (freshened a) es)
           (after b (freshened b) es)
           (λ p. asTile (askedOf a (after a (freshened a) es) p))
@@ -146,7 +146,7 @@ module _ (a b : List ℕ) (long : tooShort a ≡ tooShort b) (image : imageIn a 
           record {
             fresh = ap asAnswer same-unloaded;
             begun = same-fresh;
-            answers = same-said (freshened a) es ∙ ap (λ (x : List ℕ). saidOf asVerdict asAnswer b x es) same-fresh;
+            answers = same-said (freshened a) es ∙ ap (λ (x : List ℕ). definedAnswers asVerdict asAnswer b x es) same-fresh;
             row = last;
             tiles =
                 λ p h. ap asTile (same-tile a b long image (after a (freshened a) es) p) ∙ ap (λ (x : List ℕ). asTile (askedOf b x p)) last;
@@ -175,14 +175,14 @@ pub same-night : (a b : List ℕ) → tooShort a ≡ tooShort b → imageIn a �
 same-night a b long image =
     record {
       same =
-          λ es m n. then (night-is (says-of a) m) (then (same-defined a b long image (λ (v : Verdict). v) answerOf (λ (t : Asked). t) es) (back (night-is (says-of b) n)));
+          λ es m n. then (night-is (as-defined a) m) (then (same-defined a b long image (λ (v : Verdict). v) answerOf (λ (t : Asked). t) es) (back (night-is (as-defined b) n)));
     }
 
 -- and at the entries for C and Rust
 pub same-night-flat : (a b : List ℕ) → tooShort a ≡ tooShort b → imageIn a ≡ imageIn b → AlikeFlat a b
 same-night-flat a b long image =
     record {
-      same = λ es m n. then (night-is (says-flat a) m) (then (same-defined a b long image flatVerdict (λ (k : ℕ). k) flatTile es) (back (night-is (says-flat b) n)));
+      same = λ es m n. then (night-is (as-defined-flat a) m) (then (same-defined a b long image flatVerdict (λ (k : ℕ). k) flatTile es) (back (night-is (as-defined-flat b) n)));
     }
 
 -- two buffers with room and one image

@@ -58,17 +58,17 @@ abbrev pub NightFlat : List ℕ → List Event → ℕ → List ℕ → List (Sa
 NightFlat buffer = Night (FreshensFlat buffer) (JudgesFlat buffer) (ReleasesFlat buffer) (TilesFlat buffer)
 
 -- what the definitions say to an event, a verdict and a release's refusal each in the entries' own form
-abbrev pub saidTo : {Verdicts Answers : Type 0} → (Verdict → Verdicts) → (ℕ → Answers) → List ℕ → List ℕ → Event → Said Verdicts Answers
-saidTo asVerdict asAnswer buffer g (frame port time bytes) = verdict (asVerdict (judgeOf buffer g port time bytes .verdict))
-saidTo asVerdict asAnswer buffer g (release partition) = answer (asAnswer (releaseRefusal buffer g partition))
+abbrev pub definedAnswer : {Verdicts Answers : Type 0} → (Verdict → Verdicts) → (ℕ → Answers) → List ℕ → List ℕ → Event → Said Verdicts Answers
+definedAnswer asVerdict asAnswer buffer g (frame port time bytes) = verdict (asVerdict (judgeOf buffer g port time bytes .verdict))
+definedAnswer asVerdict asAnswer buffer g (release partition) = answer (asAnswer (releaseRefusal buffer g partition))
 
 -- and to a history from row g on
-abbrev pub saidOf : {Verdicts Answers : Type 0} → (Verdict → Verdicts) → (ℕ → Answers) → List ℕ → List ℕ → List Event → List (Said Verdicts Answers)
-saidOf asVerdict asAnswer buffer g [] = []
-saidOf asVerdict asAnswer buffer g (e ∷ es) = saidTo asVerdict asAnswer buffer g e ∷ saidOf asVerdict asAnswer buffer (step buffer g e) es
+abbrev pub definedAnswers : {Verdicts Answers : Type 0} → (Verdict → Verdicts) → (ℕ → Answers) → List ℕ → List ℕ → List Event → List (Said Verdicts Answers)
+definedAnswers asVerdict asAnswer buffer g [] = []
+definedAnswers asVerdict asAnswer buffer g (e ∷ es) = definedAnswer asVerdict asAnswer buffer g e ∷ definedAnswers asVerdict asAnswer buffer (step buffer g e) es
 
 -- entries that say what the definitions say: a verdict, a refusal's number and a tile, each in the entries' own form, and the row
-pub record Says {Verdicts Answers Tiles : Type 0} (asVerdict : Verdict → Verdicts) (asAnswer : ℕ → Answers) (asTile : Asked → Tiles) (buffer : List ℕ)
+pub record AsDefined {Verdicts Answers Tiles : Type 0} (asVerdict : Verdict → Verdicts) (asAnswer : ℕ → Answers) (asTile : Asked → Tiles) (buffer : List ℕ)
     (Fresh : Answers → List ℕ → Type 0) (Judge : List ℕ → ℕ → ℕ → List ℕ → Verdicts → List ℕ → Type 0) (Release : List ℕ → ℕ → Answers → List ℕ → Type 0)
     (Tile : List ℕ → ℕ → Tiles → Type 0) : Type 0 where
   pub fresh : (a : Answers) (g : List ℕ) → Fresh a g → (a ≡ asAnswer (unloaded buffer)) × (g ≡ freshened buffer)

@@ -38,7 +38,7 @@ use Rattle.kept.specs.KeptLaws.{fresh-kept}
 use Rattle.kept.specs.History.{Event, frame, release, step, after}
 use Rattle.kept.specs.HistoryLaws.{step-kept}
 use Rattle.flat_answers.specs.Answers.{flatVerdict}
-use Rattle.nights.specs.Nights.{Said, saidTo, saidOf}
+use Rattle.nights.specs.Nights.{Said, definedAnswer, definedAnswers}
 use Rattle.nights.specs.Sums.{Kind, refused, dropped as droppedKind, sent, kindOf, kindFlat, sumOver, atPort, frameIn, dropIn, octetsIn, droppedIn, sumsOf}
 
 -- ---- what became of a frame, told by numbers
@@ -50,11 +50,11 @@ same-kind (Sent s) = refl
 -- ---- what an event takes from a quantity of the row and brings to it, summed over a history
 module _ {Verdicts Answers : Type 0} (asVerdict : Verdict → Verdicts) (asAnswer : ℕ → Answers) (buffer : List ℕ) (quantity : List ℕ → ℕ)
     (takes brings : Event → Said Verdicts Answers → ℕ) (one : (g : List ℕ) (e : Event) → Kept (imageIn buffer) g
-    → quantity (step buffer g e) + takes e (saidTo asVerdict asAnswer buffer g e) ≡ quantity g + brings e (saidTo asVerdict asAnswer buffer g e)) where
+    → quantity (step buffer g e) + takes e (definedAnswer asVerdict asAnswer buffer g e) ≡ quantity g + brings e (definedAnswer asVerdict asAnswer buffer g e)) where
   -- what is left and what was taken is what was there and what was brought
   pub balanced : (g : List ℕ) (es : List Event) → Kept (imageIn buffer) g
-      → quantity (after buffer g es) + sumOver takes es (saidOf asVerdict asAnswer buffer g es)
-      ≡ quantity g + sumOver brings es (saidOf asVerdict asAnswer buffer g es)
+      → quantity (after buffer g es) + sumOver takes es (definedAnswers asVerdict asAnswer buffer g es)
+      ≡ quantity g + sumOver brings es (definedAnswers asVerdict asAnswer buffer g es)
   balanced g [] k = refl
   balanced g (e ∷ es) k = join _ _ _ _ _ _ _ (balanced (step buffer g e) es (step-kept buffer g e k)) (one g e k)
     where
@@ -124,7 +124,7 @@ module _ {Verdicts Answers : Type 0} (asVerdict : Verdict → Verdicts) (asAnswe
     (buffer : List ℕ) (p : ℕ) (inside : p < many frames) where
   module _ (count : Counts → ℕ) (each : Kind → List ℕ → ℕ) (c : Counter count each) where
     counted-one : (g : List ℕ) (e : Event) → Kept (imageIn buffer) g
-        → count (countsAt (step buffer g e) p) + 0 ≡ count (countsAt g p) + atPort kind p each e (saidTo asVerdict asAnswer buffer g e)
+        → count (countsAt (step buffer g e) p) + 0 ≡ count (countsAt g p) + atPort kind p each e (definedAnswer asVerdict asAnswer buffer g e)
     counted-one g (frame port time bytes) k =
         add-zero _
         ∙ counts-cases buffer g port time p bytes (k .all) inside (λ v d. count d ≡ count (countsAt g p) + cond (eqb p port) (each (kindOf v) bytes) 0) (λ n. none (eqb p port))
@@ -143,18 +143,18 @@ module _ {Verdicts Answers : Type 0} (asVerdict : Verdict → Verdicts) (asAnswe
     counted-one g (release partition) k = ap (λ (d : Counts). count d + 0) (release-counts buffer g partition p inside)
 
     counted-all : (es : List Event) → count (countsAt (freshOf (imageIn buffer)) p) ≡ 0
-        → count (countsAt (after buffer (freshOf (imageIn buffer)) es) p) ≡ sumOver (atPort kind p each) es (saidOf asVerdict asAnswer buffer (freshOf (imageIn buffer)) es)
+        → count (countsAt (after buffer (freshOf (imageIn buffer)) es) p) ≡ sumOver (atPort kind p each) es (definedAnswers asVerdict asAnswer buffer (freshOf (imageIn buffer)) es)
     counted-all es z =
         let g = freshOf (imageIn buffer) in
         sym (add-zero _)
-        ∙ ap (λ (x : ℕ). count (countsAt (after buffer g es) p) + x) (sym (nothing es (saidOf asVerdict asAnswer buffer g es)))
+        ∙ ap (λ (x : ℕ). count (countsAt (after buffer g es) p) + x) (sym (nothing es (definedAnswers asVerdict asAnswer buffer g es)))
         ∙ balanced asVerdict asAnswer buffer (λ x. count (countsAt x p)) (λ e s. 0) (atPort kind p each) counted-one g es (fresh-kept (imageIn buffer))
-        ∙ ap (λ (x : ℕ). x + sumOver (atPort kind p each) es (saidOf asVerdict asAnswer buffer g es)) z
+        ∙ ap (λ (x : ℕ). x + sumOver (atPort kind p each) es (definedAnswers asVerdict asAnswer buffer g es)) z
         ∙ zero-add _
 
   -- from a fresh row on, the four counts are the four sums
   pub counts-are-sums : (es : List Event)
-      → countsAt (after buffer (freshOf (imageIn buffer)) es) p ≡ sumsOf kind p es (saidOf asVerdict asAnswer buffer (freshOf (imageIn buffer)) es)
+      → countsAt (after buffer (freshOf (imageIn buffer)) es) p ≡ sumsOf kind p es (definedAnswers asVerdict asAnswer buffer (freshOf (imageIn buffer)) es)
   unfolding countedOf
   counts-are-sums es =
       λ i.

@@ -34,8 +34,8 @@ use Rattle.flat_answers.specs.declared.FlatTile.{FlatTile}
 use Rattle.flat_answers.specs.Answers.{flatShown, flatTile}
 use Rattle.flat_answers.specs.AnswersLaws.{shown-as}
 use Rattle.flat_frames.specs.Frames.{FreshensFlat, TilesFlat}
-use Rattle.nights.specs.Nights.{Said, Run, RunOf, RunFlat, NightOf, NightFlat, Says}
-use Rattle.nights.specs.NightLaws.{says-of, says-flat, not-refused, fresh-run-is}
+use Rattle.nights.specs.Nights.{Said, Run, RunOf, RunFlat, NightOf, NightFlat, AsDefined}
+use Rattle.nights.specs.NightLaws.{as-defined, as-defined-flat, not-refused, fresh-run-is}
 use Rattle.nights.specs.Sums.{Kind, kindOf, kindFlat, sumsOf, tileFrom, divided, Shows, ShowsFlat}
 use Rattle.nights.specs.SumLaws.{same-kind, counts-are-sums, few}
 
@@ -71,7 +71,7 @@ module _ (buffer : List ℕ) (given : unloaded buffer ≡ 0) (p : ℕ) (inside :
   -- and over what entries permit
   module _ {Verdicts Answers Tiles : Type 0} {asVerdict : Verdict → Verdicts} {asAnswer : ℕ → Answers} {asTile : Asked → Tiles} {Fresh : Answers → List ℕ → Type 0}
       {Judge : List ℕ → ℕ → ℕ → List ℕ → Verdicts → List ℕ → Type 0} {Release : List ℕ → ℕ → Answers → List ℕ → Type 0} {Tile : List ℕ → ℕ → Tiles → Type 0}
-      (says : Says asVerdict asAnswer asTile buffer Fresh Judge Release Tile) (kind : Verdicts → Kind) (same : (v : Verdict) → kind (asVerdict v) ≡ kindOf v) where
+      (says : AsDefined asVerdict asAnswer asTile buffer Fresh Judge Release Tile) (kind : Verdicts → Kind) (same : (v : Verdict) → kind (asVerdict v) ≡ kindOf v) where
     run-known : {es : List Event} {first : Answers} {g z : List ℕ} {said : List (Said Verdicts Answers)} → Fresh first g → Run Judge Release g es said z
         → Known buffer z p (sumsOf kind p es said)
     run-known {es} {first} {g} {z} {said} f r =
@@ -145,7 +145,7 @@ module _ (buffer z : List ℕ) (p : ℕ) (c : Counts) (k : Known buffer z p c) w
 module _ (buffer : List ℕ) (es : List Event) (g : List ℕ) (said : List (Said Verdict Answer)) (z : List ℕ) (fresh : Freshened buffer Done g)
     (run : RunOf buffer g es said z) (p : ℕ) (inside : p < 5) where
   known-of : Known buffer z p (sumsOf kindOf p es said)
-  known-of = run-known buffer (not-refused buffer g fresh) p inside (says-of buffer) kindOf (λ v. refl) fresh run
+  known-of = run-known buffer (not-refused buffer g fresh) p inside (as-defined buffer) kindOf (λ v. refl) fresh run
 
   -- "Tiles count what was judged": after a fresh ledger and any permitted run, port p's four cells are the four sums over its verdicts
   pub cells-are-the-sums : countsAt z p ≡ sumsOf kindOf p es said
@@ -159,7 +159,7 @@ module _ (buffer : List ℕ) (es : List Event) (g : List ℕ) (said : List (Said
 module _ (buffer : List ℕ) (es : List Event) (g : List ℕ) (said : List (Said FlatVerdict ℕ)) (z : List ℕ) (fresh : FreshensFlat buffer 0 g)
     (run : RunFlat buffer g es said z) (p : ℕ) (inside : p < 5) where
   known-flat : Known buffer z p (sumsOf kindFlat p es said)
-  known-flat = run-known buffer (sym (fresh .number)) p inside (says-flat buffer) kindFlat same-kind fresh run
+  known-flat = run-known buffer (sym (fresh .number)) p inside (as-defined-flat buffer) kindFlat same-kind fresh run
 
   -- the lent ledger's four cells
   pub cells-are-the-sums-flat : countsAt z p ≡ sumsOf kindFlat p es said

@@ -47,8 +47,8 @@ use Rattle.kept.specs.KeptLaws.{fresh-kept}
 use Rattle.kept.specs.History.{Event, frame, release, step, after}
 use Rattle.flat_answers.specs.declared.FlatVerdict.{FlatVerdict}
 use Rattle.flat_frames.specs.Frames.{FreshensFlat}
-use Rattle.nights.specs.Nights.{Said, saidTo, Run, RunOf, RunFlat, Says}
-use Rattle.nights.specs.NightLaws.{says-of, says-flat, not-refused, fresh-run-is}
+use Rattle.nights.specs.Nights.{Said, definedAnswer, Run, RunOf, RunFlat, AsDefined}
+use Rattle.nights.specs.NightLaws.{as-defined, as-defined-flat, not-refused, fresh-run-is}
 use Rattle.nights.specs.Sums.{Kind, kindOf, kindFlat}
 use Rattle.nights.specs.SumLaws.{same-kind, balanced}
 use Rattle.nights.specs.PolicerLaws.{goes-by}
@@ -153,11 +153,11 @@ release-units buffer g part j all = go (eqb (releaseRefusal buffer g part) 0) re
 -- ---- over what entries permit
 module _ {Verdicts Answers Tiles : Type 0} {asVerdict : Verdict → Verdicts} {asAnswer : ℕ → Answers} {asTile : Asked → Tiles} {buffer : List ℕ}
     {Fresh : Answers → List ℕ → Type 0} {Judge : List ℕ → ℕ → ℕ → List ℕ → Verdicts → List ℕ → Type 0} {Release : List ℕ → ℕ → Answers → List ℕ → Type 0}
-    {Tile : List ℕ → ℕ → Tiles → Type 0} (says : Says asVerdict asAnswer asTile buffer Fresh Judge Release Tile) (kind : Verdicts → Kind)
+    {Tile : List ℕ → ℕ → Tiles → Type 0} (says : AsDefined asVerdict asAnswer asTile buffer Fresh Judge Release Tile) (kind : Verdicts → Kind)
     (same : (v : Verdict) → kind (asVerdict v) ≡ kindOf v) (done : Answers → Bool) (zero-done : (n : ℕ) → done (asAnswer n) ≡ eqb n 0) (j : ℕ) (inside : j < many units) where
   units-one : (g : List ℕ) (e : Event) → Kept (imageIn buffer) g
-      → cell (step buffer g e) units j + takes kind (imageIn buffer) j e (saidTo asVerdict asAnswer buffer g e)
-      ≡ cell g units j + gives done j e (saidTo asVerdict asAnswer buffer g e)
+      → cell (step buffer g e) units j + takes kind (imageIn buffer) j e (definedAnswer asVerdict asAnswer buffer g e)
+      ≡ cell g units j + gives done j e (definedAnswer asVerdict asAnswer buffer g e)
   units-one g (frame port time bytes) k =
       ap (λ (x : Kind). cell (judgeOf buffer g port time bytes .row) units j + takenBy (imageIn buffer) j port bytes x) (same (judgeOf buffer g port time bytes .verdict))
       ∙ frame-units buffer g port time bytes j (k .all) inside
@@ -184,7 +184,7 @@ pub units-left-are-the-space-less-those-out : (buffer : List ℕ) (es : List Eve
     → j < many units
     → cell z units j + taken kindOf (imageIn buffer) j es said ≡ partSpc (imageIn buffer) j + returned doneOf j es said
 units-left-are-the-space-less-those-out buffer es g said z fresh run j h =
-    run-balanced (says-of buffer) kindOf (λ v. refl) doneOf zero-done j h (not-refused buffer g fresh) fresh run
+    run-balanced (as-defined buffer) kindOf (λ v. refl) doneOf zero-done j h (not-refused buffer g fresh) fresh run
   where
     zero-done : (n : ℕ) → doneOf (answerOf n) ≡ eqb n 0
     zero-done n = by (eqb n 0)
@@ -200,4 +200,4 @@ pub units-left-are-the-space-less-those-out-flat : (buffer : List ℕ) (es : Lis
     → j < many units
     → cell z units j + taken kindFlat (imageIn buffer) j es said ≡ partSpc (imageIn buffer) j + returned doneFlat j es said
 units-left-are-the-space-less-those-out-flat buffer es g said z fresh run j h =
-    run-balanced (says-flat buffer) kindFlat same-kind doneFlat (λ n. refl) j h (sym (fresh .number)) fresh run
+    run-balanced (as-defined-flat buffer) kindFlat same-kind doneFlat (λ n. refl) j h (sym (fresh .number)) fresh run

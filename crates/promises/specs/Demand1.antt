@@ -50,6 +50,21 @@ pub refused-write-is-zero : {l : Load} {buffer words : List ℕ} {r : Wrote} {af
     → imageIn after ≡ replicate imageWords 0
 refused-write-is-zero = found.refused-write-is-zero
 
+-- which a write refuses in the "order 31, 30, 32": a buffer too short; "a count above its limit, or more words due"; "0 words or above 64"
+pub short-buffer-told-31 : {l : Load} {buffer words : List ℕ} {r : Wrote} {after : List ℕ} → Writes l buffer words r after → tooShort buffer ≡ true → r .answer ≡ Refused 31
+short-buffer-told-31 = found.short-buffer-told-31
+
+pub damaged-load-told-30 : {l : Load} {buffer words : List ℕ} {r : Wrote} {after : List ℕ} → Writes l buffer words r after → tooShort buffer ≡ false
+    → damaged l (imageIn buffer) ≡ true
+    → r .answer ≡ Refused 30
+damaged-load-told-30 = found.damaged-load-told-30
+
+pub empty-or-long-write-told-32 : {l : Load} {buffer words : List ℕ} {r : Wrote} {after : List ℕ} → Writes l buffer words r after → tooShort buffer ≡ false
+    → damaged l (imageIn buffer) ≡ false
+    → outside (length words) ≡ true
+    → r .answer ≡ Refused 32
+empty-or-long-write-told-32 = found.empty-or-long-write-told-32
+
 -- "9, 30, 31 and 32 leave everything as found": so what was judged before is judged after, and nothing else
 pub write-as-found : {l : Load} {buffer words : List ℕ} {r : Wrote} {after : List ℕ} → Writes l buffer words r after → RefusedWith leaveAsFound (r .answer)
     → (r .load ≡ l) × (after ≡ buffer)

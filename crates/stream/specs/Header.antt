@@ -1,5 +1,5 @@
 -- What a block's header says, and the numbers 3 to 6 that it can be refused with. Both forms and the code share these tests.
-use mathlib.Core.Bool.{cond, not}
+use mathlib.Core.Bool.{Bool, true, cond, not}
 use Prim.Native.Nat.{ℕ, _+_, _/_, _%_}
 use lib.Dec.{ltb, eqb}
 use Rattle.image.specs.Rows.{sizeOf, mostOf}
@@ -27,3 +27,8 @@ abbrev pub headerOf : Block → ℕ → (Table → ℕ) → Header
 headerOf Unknown n had = Wrong 3
 headerOf NotCarried n had = Wrong 4
 headerOf (Carried t) n had = cond (not (eqb (n % sizeOf t) 0)) (Wrong 5) (cond (ltb (mostOf t) (had t + n / sizeOf t)) (Wrong 6) (Right t))
+
+-- the number of a header's refusal passes a test
+abbrev pub wrongPasses : (ℕ → Bool) → Header → Bool
+wrongPasses p (Wrong n) = p n
+wrongPasses p (Right t) = true

@@ -12,7 +12,7 @@ use Rattle.image.specs.declared.tables.Block.{Block}
 use Rattle.image.specs.declared.tables.Block.the-variants.{Carried, NotCarried, Unknown}
 use Rattle.stream.specs.declared.Header.{Header}
 use Rattle.stream.specs.declared.Header.the-variants.{Wrong, Right}
-use Rattle.stream.specs.Header.{headerOf}
+use Rattle.stream.specs.Header.{headerOf, wrongPasses}
 use Rattle.stream.specs.Passes.{Passes, Named}
 
 -- the table of a header, where it has one
@@ -60,3 +60,15 @@ pub passes-room : (t : Table) (n had : ℕ) → Passes t n had → had * sizeOf 
 passes-room t n had ok =
     subst (λ (x : ℕ). had * sizeOf t + x ≤ mostOf t * sizeOf t) (sym (whole-entries n (sizeOf t) (ok .whole)))
     (subst (λ (x : ℕ). x ≤ mostOf t * sizeOf t) (add-mul had (n / sizeOf t) (sizeOf t)) (mul-le-mul-right (sizeOf t) (ok .fits)))
+
+-- a header is refused with 3 to 6
+pub header-passes : (p : ℕ → Bool) (b : Block) (n : ℕ) (had : Table → ℕ) → p 3 ≡ true → p 4 ≡ true → p 5 ≡ true → p 6 ≡ true
+    → wrongPasses p (headerOf b n had) ≡ true
+header-passes p Unknown n had three four five six = three
+header-passes p NotCarried n had three four five six = four
+header-passes p (Carried t) n had three four five six = go (not (eqb (n % sizeOf t) 0)) (ltb (mostOf t) (had t + n / sizeOf t))
+  where
+    go : (x y : Bool) → wrongPasses p (cond x (Wrong 5) (cond y (Wrong 6) (Right t))) ≡ true
+    go true y = five
+    go false true = six
+    go false false = refl
