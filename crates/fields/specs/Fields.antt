@@ -1,11 +1,11 @@
--- The fields that document 01 uses, each by the manual's top and bottom bit. An entry is the number that its words make, low word first.
+-- The fields that documents 01 and 02 use, each by the manual's top and bottom bit. An entry is the number that its words make, low word first.
 use mathlib.Core.Bool.{cond}
 use mathlib.Core.List.{List, [], _∷_}
 use Prim.Native.Nat.{ℕ, _+_, _-_, _*_, _/_, _%_, _^_}
 use lib.Dec.{eqb}
 use Rattle.image.specs.Layout.{entryOf, countOf}
 use Rattle.image.specs.declared.tables.Table.{Table}
-use Rattle.image.specs.declared.tables.Table.the-variants.{AddressLookup, Policing, VlanLookup, Forwarding, MacConfiguration, LookupParameters, ForwardingParameters}
+use Rattle.image.specs.declared.tables.Table.the-variants.{AddressLookup, Policing, VlanLookup, Forwarding, MacConfiguration, LookupParameters, ForwardingParameters, Retagging}
 
 -- "an entry's low word comes first"
 unfoldable pub number : List ℕ → ℕ
@@ -102,3 +102,13 @@ sharedLearn image = cond (eqb (countOf image LookupParameters) 0) 0 (fieldOf ima
 -- ---- 0E, L2 Forwarding Parameters: PART_SPC(j), "ten bits up from 13 + 10j"
 abbrev pub partSpc : List ℕ → ℕ → ℕ
 partSpc image j = fieldOf image ForwardingParameters 0 (22 + 10 * j) (13 + 10 * j)
+
+-- ---- 12, Retagging
+abbrev pub ingPort : List ℕ → ℕ → ℕ
+ingPort image i = fieldOf image Retagging i 58 54
+
+abbrev pub vlanIng : List ℕ → ℕ → ℕ
+vlanIng image i = fieldOf image Retagging i 53 42
+
+abbrev pub vlanEgr : List ℕ → ℕ → ℕ
+vlanEgr image i = fieldOf image Retagging i 41 30

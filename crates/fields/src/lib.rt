@@ -6,4 +6,5 @@ pub mod forwarding;
 pub mod mac;
 pub mod parameters;
 pub mod policing;
+pub mod retagging;
 pub mod vlan;

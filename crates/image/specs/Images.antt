@@ -49,7 +49,7 @@ entries-at k (r ∷ rs) lists (suc j) rest h =
     ∙ ap (λ (m : ℕ). padded (room (getD rs j blank)) (getD lists m []) ++ (entriesFrom (suc m) (drop (suc j) rs) lists ++ rest))
     (suc-add k j ∙ sym (add-suc k j))
 
--- "the image is the first 11,456 words"
+-- the image's own length, 11,520 words
 pub length-layout : (mark : ℕ) (lists : List (List ℕ)) → length (layout mark lists) ≡ imageWords
 unfolding layout
 length-layout mark lists =

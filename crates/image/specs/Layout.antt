@@ -5,7 +5,7 @@ use lib.ListN.{length, getD, set, take, drop, replicate}
 use Rattle.image.specs.Rows.{Row, rows, room, before, indexOf, tableCount, sizeOf, mostOf, startOf}
 use Rattle.image.specs.declared.tables.Table.{Table}
 
--- 11,430 words of entries
+-- 11,494 words of entries
 abbrev pub entryWords : ℕ
 entryWords = before tableCount rows
 
@@ -13,7 +13,7 @@ entryWords = before tableCount rows
 abbrev pub stateWords : ℕ
 stateWords = 26
 
--- "the image is the first 11,456 words of a lent buffer"
+-- "the image is the first 11,456 words of a lent buffer", and "grows by 64 words" with 12: 11,520
 abbrev pub imageWords : ℕ
 imageWords = entryWords + stateWords
 

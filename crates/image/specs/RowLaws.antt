@@ -13,7 +13,7 @@ use Rattle.image.specs.Rows.{rows, room, before, indexOf, tableCount, ro
 use Rattle.image.specs.Layout.{entryWords, imageWords, countAt, markAt}
 use Rattle.image.specs.declared.tables.Row.{Row as CodeRow}
 use Rattle.image.specs.declared.tables.Table.{Table}
-use Rattle.image.specs.declared.tables.Table.the-variants.{AddressLookup, Policing, VlanLookup, Forwarding, MacConfiguration, LookupParameters, ForwardingParameters, GeneralParameters, XmiiModeParameters}
+use Rattle.image.specs.declared.tables.Table.the-variants.{AddressLookup, Policing, VlanLookup, Forwarding, MacConfiguration, LookupParameters, ForwardingParameters, GeneralParameters, XmiiModeParameters, Retagging}
 use Rattle.image.specs.Placed.{Placed, RowOf}
 
 pub placed : (t : Table) → Placed t
@@ -26,6 +26,7 @@ placed LookupParameters = record { inside = lit< tt; back = refl }
 placed ForwardingParameters = record { inside = lit< tt; back = refl }
 placed GeneralParameters = record { inside = lit< tt; back = refl }
 placed XmiiModeParameters = record { inside = lit< tt; back = refl }
+placed Retagging = record { inside = lit< tt; back = refl }
 
 all-places : every tableCount (λ k. eqb (indexOf (rowAt k .table)) k) ≡ true
 unfolding every

@@ -3,7 +3,7 @@ use mathlib.Core.List.{List, [], _∷_}
 use Prim.Native.Nat.{ℕ, zero, suc, _+_, _*_}
 use lib.ListN.{length, getD}
 use Rattle.image.specs.declared.tables.Table.{Table}
-use Rattle.image.specs.declared.tables.Table.the-variants.{AddressLookup, Policing, VlanLookup, Forwarding, MacConfiguration, LookupParameters, ForwardingParameters, GeneralParameters, XmiiModeParameters}
+use Rattle.image.specs.declared.tables.Table.the-variants.{AddressLookup, Policing, VlanLookup, Forwarding, MacConfiguration, LookupParameters, ForwardingParameters, GeneralParameters, XmiiModeParameters, Retagging}
 
 -- a row: its table, its block ID, the words of an entry, the most entries that it takes
 pub record Row : Type 0 where
@@ -15,7 +15,7 @@ pub record Row : Type 0 where
 abbrev row : Table → ℕ → ℕ → ℕ → Row
 row t i s m = record { table = t; id = i; size = s; most = m }
 
--- document 01's table. A row that joins these stands behind them, whatever its ID
+-- document 01's table, then those of document 02: a row that joins stands behind the others, whatever its ID
 abbrev pub rows : List Row
 rows =
     row AddressLookup 0x05 3 1024
@@ -27,6 +27,7 @@ rows =
     ∷ row ForwardingParameters 0x0E 3 1
     ∷ row GeneralParameters 0x11 10 1
     ∷ row XmiiModeParameters 0x4E 1 1
+    ∷ row Retagging 0x12 2 32
     ∷ []
 
 -- a table's place in the rows
@@ -40,6 +41,7 @@ indexOf LookupParameters = 5
 indexOf ForwardingParameters = 6
 indexOf GeneralParameters = 7
 indexOf XmiiModeParameters = 8
+indexOf Retagging = 9
 
 -- how many tables there are
 abbrev pub tableCount : ℕ

@@ -10,8 +10,8 @@ ghost use lib.ListN.{length, getD};
 ghost use Rattle.image.specs.Layout.{imageWords, imageIn, countOf, markOf, cleared, counted, marked};
 ghost use Rattle.image.specs.Loaded.{tooShort};
 
-// 11,430 words of entries; the counts follow them, then the mark. 26 words are for counts and state.
-const COUNTS: usize = 11430;
+// 11,494 words of entries; the counts follow them, then the mark. 26 words are for counts and state.
+const COUNTS: usize = 11494;
 
 const MARK: usize = COUNTS + TABLES;
 

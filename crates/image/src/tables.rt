@@ -17,10 +17,11 @@ pub enum Table {
     ForwardingParameters,
     GeneralParameters,
     XmiiModeParameters,
+    Retagging,
 }
 
 // How many there are.
-pub const TABLES: usize = 9;
+pub const TABLES: usize = 10;
 
 // What a block ID names: a table that is carried, another table of the manual's table 2, or nothing there.
 pub enum Block {
@@ -43,6 +44,7 @@ pub fn block_of(id: u32) -> Block
         0x0E => Block::Carried(Table::ForwardingParameters),
         0x11 => Block::Carried(Table::GeneralParameters),
         0x4E => Block::Carried(Table::XmiiModeParameters),
+        0x12 => Block::Carried(Table::Retagging),
         _ => {
             if id <= 0x12 {
                 Block::NotCarried
@@ -67,6 +69,7 @@ pub fn table_at(place: usize) -> Table
         6 => Table::ForwardingParameters,
         7 => Table::GeneralParameters,
         8 => Table::XmiiModeParameters,
+        9 => Table::Retagging,
         _ => Table::AddressLookup,
     }
 }
@@ -103,6 +106,7 @@ pub fn row_of(table: Table) -> Row
         Table::ForwardingParameters => row_with(6, 11416, 3, 1),
         Table::GeneralParameters => row_with(7, 11419, 10, 1),
         Table::XmiiModeParameters => row_with(8, 11429, 1, 1),
+        Table::Retagging => row_with(9, 11430, 2, 32),
     }
 }
 

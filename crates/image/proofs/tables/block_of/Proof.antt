@@ -21,5 +21,6 @@ block-of-spec =
     (λ c. ap blockOf (sym (c .match .keys7)))
     (λ c. ap blockOf (sym (c .match .keys8)))
     (λ c. ap blockOf (sym (c .match .keys9)))
+    (λ c. ap blockOf (sym (c .match .keys10)))
     (λ c. search (needs, pass-eq, is-listed) depth 40)
     (λ c. search (needs, pass-eq, not-listed) depth 40))

@@ -2,7 +2,7 @@
 use mathlib.Core.Path.{_≡_, sym, subst}
 use borrow.Author.Needs.{needs}
 use Rattle.image.specs.declared.tables.Table.{Table}
-use Rattle.image.specs.declared.tables.Table.the-variants.{AddressLookup, Policing, VlanLookup, Forwarding, MacConfiguration, LookupParameters, ForwardingParameters, GeneralParameters, XmiiModeParameters}
+use Rattle.image.specs.declared.tables.Table.the-variants.{AddressLookup, Policing, VlanLookup, Forwarding, MacConfiguration, LookupParameters, ForwardingParameters, GeneralParameters, XmiiModeParameters, Retagging}
 use Rattle.image.specs.declared.tables.Row.{Row}
 use Rattle.image.specs.Rows.{indexOf, startOf, sizeOf, mostOf}
 use Rattle.image.specs.Placed.{RowOf}
@@ -36,6 +36,8 @@ row-of-spec =
     (λ c κs. tt)
     (λ c. search needs)
     (λ c κs. tt)
+    (λ c. search needs)
+    (λ c κs. tt)
     (λ c. for _ AddressLookup _ (c .before .enum-told .given .1) (c .row-with .ensures))
     (λ c. for _ Policing _ (c .before .enum-told2 .given .1) (c .row-with2 .ensures))
     (λ c. for _ VlanLookup _ (c .before .enum-told3 .given .1) (c .row-with3 .ensures))
@@ -44,4 +46,5 @@ row-of-spec =
     (λ c. for _ LookupParameters _ (c .before .enum-told6 .given .1) (c .row-with6 .ensures))
     (λ c. for _ ForwardingParameters _ (c .before .enum-told7 .given .1) (c .row-with7 .ensures))
     (λ c. for _ GeneralParameters _ (c .before .enum-told8 .given .1) (c .row-with8 .ensures))
-    (λ c. for _ XmiiModeParameters _ (c .before .enum-told9 .given .1) (c .row-with9 .ensures)))
+    (λ c. for _ XmiiModeParameters _ (c .before .enum-told9 .given .1) (c .row-with9 .ensures))
+    (λ c. for _ Retagging _ (c .before .enum-told10 .given .1) (c .row-with10 .ensures)))

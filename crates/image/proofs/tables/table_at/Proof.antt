@@ -26,4 +26,5 @@ table-at-spec =
     (λ c. search needs)
     (λ c. search needs)
     (λ c. search needs)
+    (λ c. search needs)
     (λ c. search (needs, no-row)))
