@@ -1,6 +1,7 @@
 -- Steps 9 to 11 on the row.
 pub mod Settle
 pub mod Runs
+pub mod RunsLaws
 pub mod Laws
 pub mod Proved
 pub mod Note

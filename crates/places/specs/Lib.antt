@@ -1,0 +1,3 @@
+-- Verdicts in lent places.
+pub mod Places
+pub mod PlacesLaws
