@@ -1,9 +1,11 @@
--- One frame (document 01, "One frame, step by step"): the verdict and the whole row afterwards, for every buffer, row, port, time and frame.
+-- One frame (document 01, "One frame, step by step") with its replicas (document 02, request 2): the verdicts, the whole row and the lent places
+-- afterwards, for every buffer, row, port, time, frame and places.
 use mathlib.Core.Path.{_≡_}
 use mathlib.Core.Bool.{cond}
 use mathlib.Core.List.{List, [], _∷_}
 use Prim.Native.Nat.{ℕ}
 use lib.Dec.{eqb}
+use lib.ListN.{length}
 use Rattle.laws.specs.Says.{Says, says}
 use Rattle.image.specs.Layout.{imageIn}
 use Rattle.frame.specs.Bytes.{octetsOf}
@@ -17,6 +19,9 @@ use Rattle.settle.specs.declared.Verdict.{Verdict}
 use Rattle.settle.specs.declared.Verdict.the-variants.{Refused, Drop, Sent}
 use Rattle.settle.specs.Settle.{Judged, judged, carriedOut}
 use Rattle.settle.specs.Note.{isDrop, noted}
+use Rattle.places.specs.Places.{laidOver}
+use Rattle.replica.specs.Replica.{Replicas, replicasOf}
+use Rattle.judge.specs.declared.Judgement.{Judgement}
 use Rattle.judge.specs.Refusal.{refusalOf}
 
 -- what a verdict says in document 01's terms: the refusal's number; the drop's; or, as the program prints them, ports, VLAN, q, tags and the five queues
@@ -37,15 +42,39 @@ planFor image port frame = byEntry image port frame (enterOf image port frame)
 abbrev pub notedOf : ℕ → ℕ → ℕ → Judged → Judged
 notedOf port time l j = judged (j .verdict) (noted (j .row) port time l (isDrop (j .verdict)))
 
--- refused with the row unchanged, or judged: the plan is carried out, and its verdict noted
+-- the frame by itself: refused with the row unchanged, or judged, its plan carried out and its verdict noted
 unfoldable pub judgeOf : List ℕ → List ℕ → ℕ → ℕ → List ℕ → Judged
 judgeOf buffer g port time frame =
     cond (eqb (refusalOf buffer g port time frame) 0)
     (notedOf port time (octetsOf frame) (carriedOut g time (octetsOf frame) (planFor (imageIn buffer) port frame)))
     (judged (Refused (refusalOf buffer g port time frame)) g)
 
+-- what steps 1 to 6 answer of a frame that is judged; one that is refused does not get past them
+unfoldable pub enteredOf : List ℕ → List ℕ → ℕ → ℕ → List ℕ → Entered
+enteredOf buffer g port time frame =
+    cond (eqb (refusalOf buffer g port time frame) 0) (enterOf (imageIn buffer) port frame) (entered.Dropped (refusalOf buffer g port time frame))
+
+-- a frame's verdict, its replicas' verdicts in order, and the row afterwards
+pub record Called : Type 0 where
+  pub verdict : Verdict
+  pub replicas : List Verdict
+  pub row : List ℕ
+
+abbrev pub called : Judged → Replicas → Called
+called j r = record { verdict = j .verdict; replicas = r .verdicts; row = r .row }
+
+-- "right after the original's": the replicas, on the row that the frame by itself leaves
+unfoldable pub callOf : List ℕ → List ℕ → ℕ → ℕ → List ℕ → Called
+callOf buffer g port time frame =
+    called (judgeOf buffer g port time frame)
+    (replicasOf (imageIn buffer) (judgeOf buffer g port time frame .row) port time frame (enteredOf buffer g port time frame))
+
+abbrev pub answerOf : Called → Judgement
+answerOf c = record { verdict = c .verdict; replicas = length (c .replicas) }
+
 -- what a frame's call answers and leaves
-pub record Judges (buffer g : List ℕ) (port time : ℕ) (frame : List ℕ) (r : Verdict) (after : List ℕ) : Type 0 where
-  pub verdict : r ≡ judgeOf buffer g port time frame .verdict
-  pub said : saidOf r ≡ saidOf (judgeOf buffer g port time frame .verdict)
-  pub row : after ≡ judgeOf buffer g port time frame .row
+pub record Judges (buffer g : List ℕ) (port time : ℕ) (frame places : List ℕ) (r : Judgement) (after told : List ℕ) : Type 0 where
+  pub answer : r ≡ answerOf (callOf buffer g port time frame)
+  pub said : saidOf (r .verdict) ≡ saidOf (callOf buffer g port time frame .verdict)
+  pub row : after ≡ callOf buffer g port time frame .row
+  pub laid : told ≡ laidOver (callOf buffer g port time frame .replicas) places

@@ -29,9 +29,14 @@ use Rattle.settle.specs.declared.Verdict.{Verdict}
 use Rattle.settle.specs.declared.Verdict.the-variants.{Refused}
 use Rattle.settle.specs.Settle.{Judged, judged, carriedOut, Carries}
 use Rattle.settle.specs.Note.{isDrop, noted}
-use Rattle.settle.specs.Runs.{Runs, RunsAll}
+use Rattle.settle.specs.Runs.{RunsAll}
+use Rattle.settle.specs.RunsLaws.{plan-runs}
+use Rattle.places.specs.Places.{laidOver}
+use Rattle.replica.specs.Replica.{replicasOf, Replicates}
+use Rattle.replica.specs.ReplicaLaws.{none-of}
+use Rattle.judge.specs.declared.Judgement.{Judgement}
 use Rattle.judge.specs.Refusal.{mistimed, unjudged, refusalOf}
-use Rattle.judge.specs.Judge.{saidOf, byEntry, planFor, notedOf, judgeOf, Judges}
+use Rattle.judge.specs.Judge.{saidOf, byEntry, planFor, notedOf, judgeOf, enteredOf, Called, called, callOf, answerOf, Judges}
 use Rattle.judge.specs.Admitted.{Admitted}
 
 pub admitted : (buffer g : List ℕ) (port time : ℕ) (frame : List ℕ) → refusalOf buffer g port time frame ≡ 0 → Admitted buffer g port time frame
@@ -73,63 +78,74 @@ admitted-as buffer g port time frame n e z = admitted buffer g port time frame (
 
 -- ---- a plan
 
-pub runs : (buffer : List ℕ) (w : Course) → Sound buffer → Sane (imageIn buffer) w → Runs w
-runs buffer w s f =
-    record { meter = lt-of-lt-of-le (f .meter) (s .within .within Policing); smax = f .smax; rate = f .rate; partition = f .partition }
+entry-follows : (image : List ℕ) (port : ℕ) (frame : List ℕ) (q : Entered) → Follows image (byEntry image port frame q)
+entry-follows image port frame (entered.Dropped n) = tt
+entry-follows image port frame (entered.In vlan place priority) = follows image port frame vlan place priority
 
 pub plan-follows : (image : List ℕ) (port : ℕ) (frame : List ℕ) → Follows image (planFor image port frame)
 unfolding planFor
-plan-follows image port frame = go (enterOf image port frame)
-  where
-    go : (q : Entered) → Follows image (byEntry image port frame q)
-    go (entered.Dropped n) = tt
-    go (entered.In vlan place priority) = follows image port frame vlan place priority
+plan-follows image port frame = entry-follows image port frame (enterOf image port frame)
 
 -- a plan p that a call handed over
-pub plan-runs : (buffer : List ℕ) (port : ℕ) (frame : List ℕ) (p : Planned) → Sound buffer → p ≡ planFor (imageIn buffer) port frame → RunsAll p
-plan-runs buffer port frame p s e = subst RunsAll (sym e) (go (planFor (imageIn buffer) port frame) (plan-follows (imageIn buffer) port frame))
-  where
-    go : (q : Planned) → Follows (imageIn buffer) q → RunsAll q
-    go (Dropped n) f = tt
-    go (Goes w) f = runs buffer w s f
+pub entry-runs : (buffer : List ℕ) (port : ℕ) (frame : List ℕ) (q : Entered) (p : Planned) → Sound buffer → p ≡ byEntry (imageIn buffer) port frame q → RunsAll p
+entry-runs buffer port frame q p s e = plan-runs buffer p _ s e (entry-follows (imageIn buffer) port frame q)
 
 -- ---- the promise
 
-judges : (buffer g : List ℕ) (port time : ℕ) (frame : List ℕ) (r : Verdict) (after : List ℕ) → judged r after ≡ judgeOf buffer g port time frame
-    → Judges buffer g port time frame r after
-judges buffer g port time frame r after q =
+judges : (buffer g : List ℕ) (port time : ℕ) (frame places : List ℕ) (j : Judged) (q : Entered) (n : ℕ) (after told : List ℕ)
+    → j ≡ judgeOf buffer g port time frame
+    → q ≡ enteredOf buffer g port time frame
+    → Replicates (replicasOf (imageIn buffer) (j .row) port time frame q) places n after told
+    → Judges buffer g port time frame places (record { verdict = j .verdict; replicas = n }) after told
+unfolding callOf
+judges buffer g port time frame places j q n after told e f r =
     record {
-      verdict = ap (λ (j : Judged). j .verdict) q;
-      said = ap (λ (j : Judged). saidOf (j .verdict)) q;
-      row = ap (λ (j : Judged). j .row) q;
+      answer = ap (λ (m : ℕ). judgement (j .verdict) m) (r .many) ∙ ap answerOf is;
+      said = ap (λ (c : Called). saidOf (c .verdict)) is;
+      row = r .left ∙ ap (λ (c : Called). c .row) is;
+      laid = r .laid ∙ ap (λ (c : Called). laidOver (c .replicas) places) is;
     }
+  where
+    judgement : Verdict → ℕ → Judgement
+    judgement v m = record { verdict = v; replicas = m }
+
+    is : called j (replicasOf (imageIn buffer) (j .row) port time frame q) ≡ callOf buffer g port time frame
+    is =
+        ap (λ (x : Entered). called j (replicasOf (imageIn buffer) (j .row) port time frame x)) f
+        ∙ ap (λ (k : Judged). called k (replicasOf (imageIn buffer) (k .row) port time frame (enteredOf buffer g port time frame))) e
 
 -- a number n that the refusals come to refuses
-pub is-refused : (buffer g : List ℕ) (port time : ℕ) (frame : List ℕ) (n : ℕ) → n ≡ refusalOf buffer g port time frame → (n ≡ 0 → ⊥)
-    → Judges buffer g port time frame (Refused n) g
-unfolding judgeOf
-is-refused buffer g port time frame n e z =
-    judges buffer g port time frame (Refused n) g (not-zero n _ _ _ _ e z (ap (λ (m : ℕ). judged (Refused m) g) e))
+pub is-refused : (buffer g : List ℕ) (port time : ℕ) (frame places : List ℕ) (n : ℕ) → n ≡ refusalOf buffer g port time frame → (n ≡ 0 → ⊥)
+    → Judges buffer g port time frame places (record { verdict = Refused n; replicas = 0 }) g places
+unfolding judgeOf enteredOf
+is-refused buffer g port time frame places n e z =
+    judges buffer g port time frame places (judged (Refused n) g) (entered.Dropped n) 0 g places (not-zero n _ _ _ _ e z (ap (λ (m : ℕ). judged (Refused m) g) e))
+    (not-zero n _ _ _ _ e z (ap entered.Dropped e))
+    (none-of (imageIn buffer) g port time frame (entered.Dropped n) n places refl)
 
--- or does not: the plan is carried out, and its verdict noted
-pub is-judged : (buffer g : List ℕ) (port time : ℕ) (frame : List ℕ) (n : ℕ) (p : Planned) (r : Verdict) (mid after : List ℕ) (d : Bool)
+-- or does not: the plan is carried out, its verdict noted, and the replicas follow
+pub is-judged : (buffer g : List ℕ) (port time : ℕ) (frame places : List ℕ) (n : ℕ) (q : Entered) (p : Planned) (r : Verdict) (mid left : List ℕ) (d : Bool) (m : ℕ) (after told : List ℕ)
     → n ≡ refusalOf buffer g port time frame
     → n ≡ 0
-    → p ≡ planFor (imageIn buffer) port frame
+    → q ≡ enterOf (imageIn buffer) port frame
+    → p ≡ byEntry (imageIn buffer) port frame q
     → Carries g time (octetsOf frame) p r mid
     → d ≡ isDrop r
-    → after ≡ noted mid port time (octetsOf frame) d
-    → Judges buffer g port time frame r after
-unfolding judgeOf
-is-judged buffer g port time frame n p r mid after d e z q x f h =
-    judges buffer g port time frame r after
+    → left ≡ noted mid port time (octetsOf frame) d
+    → Replicates (replicasOf (imageIn buffer) left port time frame q) places m after told
+    → Judges buffer g port time frame places (record { verdict = r; replicas = m }) after told
+unfolding judgeOf enteredOf planFor
+is-judged buffer g port time frame places n q p r mid left d m after told e z i k x f h t =
+    judges buffer g port time frame places (judged r left) q m after told
     (at-zero n _ _ _ _ e z
     (ap (judged r) (h ∙ ap (noted mid port time (octetsOf frame)) f)
     ∙ ap (λ (j : Judged). notedOf port time (octetsOf frame) j) (ap (λ (v : Verdict). judged v mid) (x .verdict) ∙ ap (judged (carriedOut g time (octetsOf frame) p .verdict)) (x .row))
-    ∙ ap (λ (k : Planned). notedOf port time (octetsOf frame) (carriedOut g time (octetsOf frame) k)) q))
+    ∙ ap (λ (j : Planned). notedOf port time (octetsOf frame) (carriedOut g time (octetsOf frame) j)) (k ∙ ap (byEntry (imageIn buffer) port frame) i)))
+    (at-zero n _ _ _ _ e z i)
+    t
 
 -- the promise permits one outcome
-pub one-judgement : (buffer g : List ℕ) (port time : ℕ) (frame : List ℕ) (r s : Verdict) (a b : List ℕ) → Judges buffer g port time frame r a
-    → Judges buffer g port time frame s b
-    → (r ≡ s) × (a ≡ b)
-one-judgement buffer g port time frame r s a b p q = (p .verdict ∙ sym (q .verdict), p .row ∙ sym (q .row))
+pub one-judgement : (buffer g : List ℕ) (port time : ℕ) (frame places : List ℕ) (r s : Judgement) (a b t u : List ℕ) → Judges buffer g port time frame places r a t
+    → Judges buffer g port time frame places s b u
+    → (r ≡ s) × (a ≡ b) × (t ≡ u)
+one-judgement buffer g port time frame places r s a b t u p q = (p .answer ∙ sym (q .answer), p .row ∙ sym (q .row), p .laid ∙ sym (q .laid))

@@ -1,11 +1,15 @@
-// One frame: refused, dropped with the step's number, or sent; the row is lent and left as the verdict leaves it.
+// One frame with its replicas: refused, dropped with the step's number, or sent; the row is lent and left as the last verdict leaves it, and each
+// replica's verdict is told in a lent place.
 use ledger::CELLS;
 use ledger::FRAMES;
 use ledger::LAST;
 use ledger::range::LATEST;
 use ledger::range::standing;
+use places::PLACES;
 use plan::Planned;
 use plan::enter::Entered;
+use plan::enter::enter;
+use replica::replicate;
 use settle::Verdict;
 use settle::carry_out;
 use settle::note::is_drop;
@@ -15,7 +19,8 @@ ghost use Prim.Native.Nat.{_<_};
 ghost use Rattle.image.specs.Layout.{imageIn};
 ghost use Rattle.image.specs.Sound.{Sound};
 ghost use Rattle.judge.specs.Refusal.{mistimed, unjudged, refusalOf};
-ghost use Rattle.judge.specs.Judge.{planFor, Judges};
+ghost use Rattle.plan.specs.LetIn.{Through};
+ghost use Rattle.judge.specs.Judge.{byEntry, Judges};
 
 // 35 and 38: the most bytes of a frame, and the frames of a port at which no more are counted.
 const MOST_BYTES: usize = 4096;
@@ -62,13 +67,20 @@ fn refusal(image: &[u32], row: &[u64; CELLS], port: usize, time: u64, frame: &[u
     unjudged(row, port, time, frame)
 }
 
-// Steps 1 to 8, and the course of the rest.
-fn plan_for(image: &[u32], port: usize, frame: &[u8]) -> Planned
+// The verdict, and how many replicas were told.
+pub struct Judgement {
+    pub verdict: Verdict,
+    pub replicas: usize,
+}
+
+// Steps 7 and 8 of a frame that steps 1 to 6 let in, and the course of the rest.
+fn plan_for(image: &[u32], port: usize, frame: &[u8], entered: Entered) -> Planned
     requires { ⌜ Sound (now image) ⌝ }
     requires { ⌜ port < 5 ⌝ }
-    ensures { λ r. ⌜ r ≡ planFor (imageIn (now (image .entry))) port (now (frame .entry)) ⌝ }
+    requires { ⌜ Through (imageIn (now image)) (now frame) entered ⌝ }
+    ensures { λ r. ⌜ r ≡ byEntry (imageIn (now (image .entry))) port (now (frame .entry)) entered ⌝ }
 {
-    match plan::enter::enter(image, port, frame) {
+    match entered {
         Entered::Dropped(drop) => Planned::Dropped(drop),
         Entered::In {
             vlan,
@@ -78,17 +90,32 @@ fn plan_for(image: &[u32], port: usize, frame: &[u8]) -> Planned
     }
 }
 
-// The verdict on a frame that came in at a port at a time in µs.
-pub fn judge(image: &[u32], row: &mut [u64; CELLS], port: usize, time: u64, frame: &[u8]) -> Verdict
-    ensures { λ r. ⌜ Judges (now (image .entry)) (now (row .entry)) port time (now (frame .entry)) r (now (row .exit)) ⌝ }
+// The verdict on a frame that came in at a port at a time in µs, and on its replicas.
+pub fn judge(
+    image: &[u32],
+    row: &mut [u64; CELLS],
+    port: usize,
+    time: u64,
+    frame: &[u8],
+    replicas: &mut [u64; PLACES],
+) -> Judgement
+    ensures { λ r. ⌜ Judges (now (image .entry)) (now (row .entry)) port time (now (frame .entry)) (now (replicas .entry)) r (now (row .exit)) (now (replicas .exit)) ⌝ }
 {
     let refused = refusal(image, row, port, time, frame);
     if refused != 0 {
-        return Verdict::Refused(refused);
+        return Judgement {
+            verdict: Verdict::Refused(refused),
+            replicas: 0,
+        };
     }
     let octets = frame.len() as u64 + 4;
-    let planned = plan_for(image, port, frame);
+    let entered = enter(image, port, frame);
+    let planned = plan_for(image, port, frame, entered);
     let verdict = carry_out(row, planned, time, octets);
     note(row, port, time, octets, is_drop(verdict));
-    verdict
+    let told = replicate(image, row, port, time, frame, entered, replicas);
+    Judgement {
+        verdict,
+        replicas: told,
+    }
 }

@@ -1,8 +1,13 @@
--- `judge::judge`: refused with the row as it was; or the plan carried out, and noted.
+-- `judge::judge`: refused with the row and the places as they were; or the plan carried out, and noted, and then the replicas.
+use mathlib.Core.Path.{sym, subst}
 use native.Mathlib.Omega.{arith}
 use borrow.Author.Needs.{needs}
+use denote.Ref.{now}
+use Rattle.image.specs.Layout.{imageIn}
+use Rattle.plan.specs.LetIn.{Through}
+use Rattle.plan.specs.EnterLaws.{through}
 use Rattle.settle.specs.CountableLaws.{still-countable}
-use Rattle.judge.specs.Laws.{admitted-as, plan-runs, is-refused, is-judged}
+use Rattle.judge.specs.Laws.{admitted-as, entry-runs, is-refused, is-judged}
 use Rattle.judge.proofs.judge.Statement.{statement}
 use Rattle.judge.proofs.judge.Tie as tie
 
@@ -15,11 +20,27 @@ judge-spec =
     (λ c. omega arith)
     (λ c κs. let a = admitted-as _ _ _ _ _ _ (c .before .refusal .ensures) (c .if1 .left) in (a .image, a .inside))
     (λ c κs.
-    let a = admitted-as _ _ _ _ _ _ (c .before .before .before .refusal .ensures) (c .before .before .if1 .left) in
-    (plan-runs _ _ _ _ (a .image) (c .before .plan-for .ensures), omega (arith, a .short)))
+    let a = admitted-as _ _ _ _ _ _ (c .before .before .refusal .ensures) (c .before .if1 .left) in
+    let s = c .before .before .before .before .before .before in
+    (a .image, (a .inside, subst (Through (imageIn (now (s .args .image))) (now (s .args .frame))) (sym (c .enter .ensures)) (through _ _ _))))
+    (λ c κs.
+    let p = c .before in
+    let s = p .before .before .before .before .before .before .before in
+    let a = admitted-as _ _ _ _ _ _ (p .before .before .before .refusal .ensures) (p .before .before .if1 .left) in
+    (entry-runs _ (s .args .port) (now (s .args .frame)) (p .before .enter .result) _ (a .image) (p .plan-for .ensures), omega (arith, a .short)))
     (λ c κs. tt)
     (λ c κs.
     let p = c .before .before .before .before in
-    let a = admitted-as _ _ _ _ _ _ (p .before .before .refusal .ensures) (p .before .if1 .left) in
-    (still-countable _ _ _ _ _ _ _ (c .before .before .carry-out .ensures) (plan-runs _ _ _ _ (a .image) (p .plan-for .ensures)) (a .inside) (a .countable), (a .inside, omega (arith, a .short))))
-    (λ c. search (needs, is-judged)))
+    let s = p .before .before .before .before .before .before .before in
+    let a = admitted-as _ _ _ _ _ _ (p .before .before .before .refusal .ensures) (p .before .before .if1 .left) in
+    (still-countable _ _ _ _ _ _ _ (c .before .before .carry-out .ensures) (entry-runs _ (s .args .port) (now (s .args .frame)) (p .before .enter .result) _ (a .image) (p .plan-for .ensures)) (a .inside) (a .countable), (a .inside, omega (arith, a .short))))
+    (λ c κs.
+    let e = c .before .before .before .before .before .before .before .before in
+    let s = e .before .before .before .before .before .before in
+    let a = admitted-as _ _ _ _ _ _ (e .before .before .refusal .ensures) (e .before .if1 .left) in
+    (a .image, ((a .inside, a .short), (subst (Through (imageIn (now (s .args .image))) (now (s .args .frame))) (sym (e .enter .ensures)) (through _ _ _), search needs))))
+    (λ c.
+    let n = c .before .before .before in
+    let p = n .before .before .before .before .before in
+    let e = p .before in
+    is-judged _ _ _ _ _ _ _ _ _ _ _ _ _ _ _ _ (e .before .before .refusal .ensures) (e .before .if1 .left) (e .enter .ensures) (p .plan-for .ensures) (n .before .before .before .carry-out .ensures) (n .before .is-drop .ensures) (n .note .ensures) (c .replicate .ensures)))
