@@ -23,7 +23,7 @@ use Rattle.settle.specs.declared.Verdict.the-variants.{Refused, Drop, Sent}
 use Rattle.settle.specs.Settle.{Judged}
 use Rattle.judge.specs.Refusal.{mistimed, refusalOf}
 use Rattle.judge.specs.Judge.{planFor, judgeOf, Judges}
-use Rattle.judge.specs.After.{spentAt}
+use Rattle.settle.specs.After.{spentAt}
 use Rattle.judge.specs.Cases.{by-cases}
 use Rattle.judge.specs.Proved.{refused-unchanged}
 use Rattle.flat_answers.specs.declared.FlatVerdict.{FlatVerdict}

@@ -14,13 +14,15 @@ use Rattle.judge.specs.Judge as verdict
 use Rattle.tile.specs.declared.shares.Tile.the-variants as shown
 use Rattle.tile.specs.declared.shares.Asked.the-variants as askeds
 use Rattle.tile.specs.Tiles as asked
+use Rattle.judge.specs.declared.Judgement.{Judgement}
 use Rattle.judge.specs.Judge.{Judges}
 use Rattle.tile.specs.declared.shares.Asked.{Asked}
 use Rattle.tile.specs.Tiles.{Tiled}
 use Rattle.flat_answers.specs.declared.FlatVerdict.{FlatVerdict}
 use Rattle.flat_answers.specs.declared.FlatTile.{FlatTile}
 use Rattle.flat_answers.specs.Answers.{flatVerdict, flatTile}
-use Rattle.flat_frames.specs.Frames.{FreshensFlat, JudgesFlat, ReleasesFlat, TilesFlat}
+use Rattle.flat_frames.specs.declared.FlatJudged.{FlatJudged}
+use Rattle.flat_frames.specs.Frames.{FreshensFlat, flatJudged, JudgesFlat, ReleasesFlat, TilesFlat}
 
 pub freshens : (buffer : List ℕ) (a : Answer) (r : ℕ) (after : List ℕ) → Freshened buffer a after → r ≡ numberOf a → FreshensFlat buffer r after
 freshens buffer a r after p e = record { number = e ∙ ap numberOf (p .answer) ∙ numbered (unloaded buffer); row = p .row }
@@ -28,15 +30,23 @@ freshens buffer a r after p e = record { number = e ∙ ap numberOf (p .answer) 
 pub one-fresh : (buffer : List ℕ) (r s : ℕ) (a b : List ℕ) → FreshensFlat buffer r a → FreshensFlat buffer s b → (r ≡ s) × (a ≡ b)
 one-fresh buffer r s a b p q = (p .number ∙ sym (q .number), p .row ∙ sym (q .row))
 
-pub judges : (buffer g : List ℕ) (port time : ℕ) (frame : List ℕ) (v : Verdict) (r : FlatVerdict) (after : List ℕ) → Judges buffer g port time frame v after
-    → r ≡ flatVerdict v
-    → JudgesFlat buffer g port time frame r after
-judges buffer g port time frame v r after p e = record { verdict = e ∙ ap flatVerdict (p .verdict); row = p .row }
+pub judges : (buffer g : List ℕ) (port time : ℕ) (frame places : List ℕ) (j : Judgement) (v : FlatVerdict) (n : ℕ) (after told : List ℕ)
+    → Judges buffer g port time frame places j after told
+    → v ≡ flatVerdict (j .verdict)
+    → n ≡ j .replicas
+    → JudgesFlat buffer g port time frame places (record { verdict = v; replicas = n }) after told
+judges buffer g port time frame places j v n after told p e f =
+    record {
+      answer =
+          (λ i. record { verdict = e i; replicas = f i }) ∙ ap (λ (k : Judgement). flatJudged (k .verdict) (k .replicas)) (p .answer);
+      row = p .row;
+      laid = p .laid;
+    }
 
-pub one-judged : (buffer g : List ℕ) (port time : ℕ) (frame : List ℕ) (r s : FlatVerdict) (a b : List ℕ) → JudgesFlat buffer g port time frame r a
-    → JudgesFlat buffer g port time frame s b
-    → (r ≡ s) × (a ≡ b)
-one-judged buffer g port time frame r s a b p q = (p .verdict ∙ sym (q .verdict), p .row ∙ sym (q .row))
+pub one-judged : (buffer g : List ℕ) (port time : ℕ) (frame places : List ℕ) (r s : FlatJudged) (a b t u : List ℕ) → JudgesFlat buffer g port time frame places r a t
+    → JudgesFlat buffer g port time frame places s b u
+    → (r ≡ s) × (a ≡ b) × (t ≡ u)
+one-judged buffer g port time frame places r s a b t u p q = (p .answer ∙ sym (q .answer), p .row ∙ sym (q .row), p .laid ∙ sym (q .laid))
 
 pub releases : (buffer g : List ℕ) (partition : ℕ) (a : Answer) (r : ℕ) (after : List ℕ) → Released buffer g partition a after → r ≡ numberOf a
     → ReleasesFlat buffer g partition r after

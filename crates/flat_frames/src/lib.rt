@@ -3,7 +3,15 @@
 use flat_answers::FlatTile;
 use flat_answers::FlatVerdict;
 use ledger::CELLS;
+use places::PLACES;
 ghost use Rattle.flat_frames.specs.Frames.{FreshensFlat, JudgesFlat, ReleasesFlat, TilesFlat};
+
+// A frame's verdict, and how many replicas stand in the lent places.
+#[repr(C)]
+pub struct FlatJudged {
+    pub verdict: FlatVerdict,
+    pub replicas: u64,
+}
 
 // Fills the lent row with a fresh ledger of an image: the refusal's number, 0 for none.
 pub fn fresh_ledger(image: &[u32], ledger: &mut [u64; CELLS]) -> u32
@@ -12,17 +20,23 @@ pub fn fresh_ledger(image: &[u32], ledger: &mut [u64; CELLS]) -> u32
     flat_answers::outcome_number(row::fresh::fresh_ledger(image, ledger))
 }
 
-// A frame that came in at a port at a time in µs.
+// A frame that came in at a port at a time in µs, and its replicas in the lent places.
 pub fn judge(
     image: &[u32],
     ledger: &mut [u64; CELLS],
     port: usize,
     time: u64,
     frame: &[u8],
-) -> FlatVerdict
-    ensures { λ r. ⌜ JudgesFlat (now (image .entry)) (now (ledger .entry)) port time (now (frame .entry)) r (now (ledger .exit)) ⌝ }
+    replicas: &mut [u64; PLACES],
+) -> FlatJudged
+    ensures { λ r. ⌜ JudgesFlat (now (image .entry)) (now (ledger .entry)) port time (now (frame .entry)) (now (replicas .entry)) r (now (ledger .exit)) (now (replicas .exit)) ⌝ }
 {
-    flat_answers::flat_verdict(judge::judge(image, ledger, port, time, frame))
+    let j = judge::judge(image, ledger, port, time, frame, replicas);
+    let verdict = j.verdict;
+    FlatJudged {
+        verdict: flat_answers::flat_verdict(verdict),
+        replicas: j.replicas as u64,
+    }
 }
 
 // One unit of a partition comes back: the refusal's number, 0 for none.

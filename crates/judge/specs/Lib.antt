@@ -4,6 +4,5 @@ pub mod Judge
 pub mod SaidLaws
 pub mod Admitted
 pub mod Laws
-pub mod After
 pub mod Cases
 pub mod Proved

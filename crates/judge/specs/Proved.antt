@@ -1,7 +1,8 @@
--- What pins a judgement: a refused one changes nothing, and a buffer's rest has no part in it.
-use mathlib.Core.Path.{_≡_, _∙_, ap}
+-- What pins a judgement: a refused one changes nothing and has no replica, a buffer's rest has no part in it, and a frame with no entry of 12 to name it is
+-- judged by itself.
+use mathlib.Core.Path.{_≡_, refl, _∙_, ap}
 use mathlib.Core.Bool.{Bool, cond}
-use mathlib.Core.List.{List}
+use mathlib.Core.List.{List, []}
 use Prim.Native.Nat.{ℕ}
 use lib.Dec.{eqb}
 use borrow.Author.Tests.{ne-eqb}
@@ -10,10 +11,14 @@ use Rattle.image.specs.Loaded.{tooShort}
 use Rattle.ledger.specs.Range.{standing}
 use Rattle.ledger.specs.Proved.{same-standing}
 use Rattle.frame.specs.Bytes.{octetsOf}
+use Rattle.plan.specs.declared.enter.Entered.{Entered}
+use Rattle.plan.specs.declared.enter.Entered.the-variants as entered
+use Rattle.plan.specs.Enter.{enterOf}
 use Rattle.settle.specs.declared.Verdict.the-variants.{Refused}
 use Rattle.settle.specs.Settle.{Judged, judged, carriedOut}
+use Rattle.replica.specs.Replica.{replicas, replicasOf}
 use Rattle.judge.specs.Refusal.{unjudged, refusalOf}
-use Rattle.judge.specs.Judge.{planFor, notedOf, judgeOf}
+use Rattle.judge.specs.Judge.{planFor, notedOf, judgeOf, enteredOf, Called, called, callOf}
 
 -- "call refusals .. change nothing"
 pub refused-unchanged : (buffer g : List ℕ) (port time : ℕ) (frame : List ℕ) → (refusalOf buffer g port time frame ≡ 0 → ⊥)
@@ -34,3 +39,32 @@ same-judgement a b long image g port time frame =
   where
     told : List ℕ → ℕ → Judged
     told i n = cond (eqb n 0) (notedOf port time (octetsOf frame) (carriedOut g time (octetsOf frame) (planFor i port frame))) (judged (Refused n) g)
+
+-- ---- with its replicas
+
+-- the verdict is that of the frame by itself
+pub own-verdict : (buffer g : List ℕ) (port time : ℕ) (frame : List ℕ) → callOf buffer g port time frame .verdict ≡ judgeOf buffer g port time frame .verdict
+unfolding callOf
+own-verdict buffer g port time frame = refl
+
+-- a refused frame has none, and the row stays
+pub refused-call : (buffer g : List ℕ) (port time : ℕ) (frame : List ℕ) → (refusalOf buffer g port time frame ≡ 0 → ⊥)
+    → callOf buffer g port time frame ≡ called (judged (Refused (refusalOf buffer g port time frame)) g) (replicas [] g)
+unfolding callOf enteredOf
+refused-call buffer g port time frame h =
+    ap (λ (t : Bool). whole (judgeOf buffer g port time frame) (cond t (enterOf (imageIn buffer) port frame) (entered.Dropped (refusalOf buffer g port time frame)))) (ne-eqb _ 0 h)
+    ∙ ap (λ (j : Judged). whole j (entered.Dropped (refusalOf buffer g port time frame))) (refused-unchanged buffer g port time frame h)
+  where
+    whole : Judged → Entered → Called
+    whole j q = called j (replicasOf (imageIn buffer) (j .row) port time frame q)
+
+pub same-call : (a b : List ℕ) → tooShort a ≡ tooShort b → imageIn a ≡ imageIn b → (g : List ℕ) (port time : ℕ) (frame : List ℕ)
+    → callOf a g port time frame ≡ callOf b g port time frame
+unfolding callOf enteredOf refusalOf
+same-call a b long image g port time frame =
+    ap (λ (j : Judged). told (imageIn a) j (refusalOf a g port time frame)) (same-judgement a b long image g port time frame)
+    ∙ ap (λ (n : ℕ). told (imageIn a) (judgeOf b g port time frame) (cond (eqb n 0) (unjudged g port time frame) n)) (same-standing a b long image g)
+    ∙ ap (λ (i : List ℕ). told i (judgeOf b g port time frame) (refusalOf b g port time frame)) image
+  where
+    told : List ℕ → Judged → ℕ → Called
+    told i j n = called j (replicasOf i (j .row) port time frame (cond (eqb n 0) (enterOf i port frame) (entered.Dropped n)))

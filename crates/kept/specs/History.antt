@@ -2,7 +2,7 @@
 use mathlib.Core.List.{List, [], _∷_}
 use Prim.Native.Nat.{ℕ}
 use Rattle.row.specs.Release.{released}
-use Rattle.judge.specs.Judge.{judgeOf}
+use Rattle.judge.specs.Judge.{callOf}
 
 -- a frame with its port, its time and its bytes, or a release of a partition
 pub data Event : Type 0 where
@@ -11,7 +11,7 @@ pub data Event : Type 0 where
 
 -- the row after one event
 abbrev pub step : List ℕ → List ℕ → Event → List ℕ
-step buffer g (frame port time bytes) = judgeOf buffer g port time bytes .row
+step buffer g (frame port time bytes) = callOf buffer g port time bytes .row
 step buffer g (release partition) = released buffer g partition
 
 -- and after all of them

@@ -7,11 +7,11 @@ use Rattle.image.specs.Layout.{imageIn}
 use Rattle.ledger.specs.Range.{outOfRange}
 use Rattle.row.specs.Fresh.{freshOf}
 use Rattle.kept.specs.Kept.{Kept}
-use Rattle.kept.specs.KeptLaws.{fresh-kept, judge-kept, release-kept, passes-39}
+use Rattle.kept.specs.KeptLaws.{fresh-kept, call-kept, release-kept, passes-39}
 use Rattle.kept.specs.History.{Event, frame, release, step, after}
 
 pub step-kept : (buffer g : List ℕ) (e : Event) → Kept (imageIn buffer) g → Kept (imageIn buffer) (step buffer g e)
-step-kept buffer g (frame port time bytes) k = judge-kept buffer g port time bytes k
+step-kept buffer g (frame port time bytes) k = call-kept buffer g port time bytes k
 step-kept buffer g (release partition) k = release-kept buffer g partition k
 
 history-kept : (buffer g : List ℕ) (es : List Event) → Kept (imageIn buffer) g → Kept (imageIn buffer) (after buffer g es)

@@ -11,6 +11,7 @@ use lib.ListN.{length, getD, set, length-set}
 use borrow.Author.Tests.{le-ltb, lt-ltb, eqb-true}
 use Rattle.laws.specs.ScanLaws.{none-all}
 use Rattle.image.specs.Layout.{imageIn, countOf}
+use Rattle.image.specs.Sound.{Sound}
 use Rattle.image.specs.declared.tables.Table.the-variants.{Policing}
 use Rattle.fields.specs.Fields.{partSpc, smax}
 use Rattle.ledger.specs.Row.{units, credit, since, frames, drops, octets, dropped, last, start, many, cellCount, cell, put}
@@ -27,10 +28,14 @@ use Rattle.plan.specs.Sane.{Sane}
 use Rattle.settle.specs.declared.Held.{Held}
 use Rattle.settle.specs.Settle.{meterOf, settledBy, heldAt, stored, Judged}
 use Rattle.settle.specs.Note.{countsAt, noted}
-use Rattle.judge.specs.Judge.{judgeOf}
+use Rattle.settle.specs.Noted.{time-noted}
+use Rattle.settle.specs.RunsLaws.{runs}
+use Rattle.judge.specs.Refusal.{refusalOf}
+use Rattle.judge.specs.Judge.{judgeOf, callOf}
 use Rattle.judge.specs.Admitted.{Admitted}
-use Rattle.judge.specs.After.{spentAt, rowAfter}
-use Rattle.judge.specs.Cases.{by-cases}
+use Rattle.settle.specs.After.{spentAt, rowAfter}
+use Rattle.judge.specs.Laws.{admitted}
+use Rattle.judge.specs.Cases.{by-cases, call-keeps}
 use Rattle.kept.specs.Lists.{same-or-not, same-part}
 use Rattle.kept.specs.Fresh.{fresh-length, fresh-units, fresh-credit, fresh-zero}
 use Rattle.kept.specs.Cells.{spent-units, spent-credit, one-more, counted-as}
@@ -178,23 +183,69 @@ noted-kept image g port time l drop r hp early lo hi =
 full-is : (image : List ℕ) (m : ℕ) → m < countOf image Policing → smax image m * 8000000 ≡ fullOf image m
 full-is image m h = ap (λ (t : Bool). cond t (smax image m * 8000000) 0) (sym (lt-ltb m (countOf image Policing) h))
 
--- a frame keeps the ledger in range, refused or not
-pub judge-kept : (buffer g : List ℕ) (port time : ℕ) (frame : List ℕ) → Kept (imageIn buffer) g → Kept (imageIn buffer) (judgeOf buffer g port time frame .row)
-judge-kept buffer g port time frame k =
-    by-cases buffer g port time frame (λ (j : Judged). Kept (imageIn buffer) (j .row)) (λ z. k) (λ a n e. note a g true (ready (imageIn buffer) g time k (a .later)))
-    (λ a w e f z. note a (rowAfter g w time l) true (spent a w f))
-    (λ a w e f z. note a (rowAfter g w time l) false (spent a w f))
-  where
-    l : ℕ
-    l = octetsOf frame
+-- what a course leaves of a row, spent
+spent-ready : (buffer g : List ℕ) (time l : ℕ) (w : Course) → Sound buffer → Sane (imageIn buffer) w → Ready (imageIn buffer) g time → Ready (imageIn buffer) (rowAfter g w time l) time
+spent-ready buffer g time l w s f r =
+    stored-ready (imageIn buffer) g time w (settledBy w (spentAt g w time l) .held) r (lt-of-lt-of-le (f .meter) (s .within .within Policing)) (f .partition)
+    (spent-units (meterOf w (heldAt g w)) time (cell g units (w .partition)) l (w .sending .ports))
+    (subst (λ (x : ℕ). spentAt g w time l .credit ≤ x) (ap (λ (x : ℕ). x * 8000000) (f .own) ∙ full-is (imageIn buffer) (w .meter) (f .meter))
+    (spent-credit (meterOf w (heldAt g w)) time (cell g units (w .partition)) l (w .sending .ports)))
+    (now-stored (meterOf w (heldAt g w)) time (cell g units (w .partition)) l (w .sending .ports))
 
-    note : Admitted buffer g port time frame → (h : List ℕ) (drop : Bool) → Ready (imageIn buffer) h time → Kept (imageIn buffer) (noted h port time l drop)
-    note a h drop r = noted-kept (imageIn buffer) h port time l drop r (a .inside) (a .early) (omega arith) (omega (arith, a .short))
+module _ (buffer g : List ℕ) (port time : ℕ) (frame : List ℕ) (k : Kept (imageIn buffer) g) where
+  abbrev l : ℕ
+  l = octetsOf frame
 
-    spent : Admitted buffer g port time frame → (w : Course) → Sane (imageIn buffer) w → Ready (imageIn buffer) (rowAfter g w time l) time
-    spent a w f =
-        stored-ready (imageIn buffer) g time w (settledBy w (spentAt g w time l) .held) (ready (imageIn buffer) g time k (a .later)) (lt-of-lt-of-le (f .meter) (a .image .within .within Policing)) (f .partition)
-        (spent-units (meterOf w (heldAt g w)) time (cell g units (w .partition)) l (w .sending .ports))
-        (subst (λ (x : ℕ). spentAt g w time l .credit ≤ x) (ap (λ (x : ℕ). x * 8000000) (f .own) ∙ full-is (imageIn buffer) (w .meter) (f .meter))
-        (spent-credit (meterOf w (heldAt g w)) time (cell g units (w .partition)) l (w .sending .ports)))
-        (now-stored (meterOf w (heldAt g w)) time (cell g units (w .partition)) l (w .sending .ports))
+  -- the frame by itself, refused or not, and its time is the last once it is judged
+  alone-kept : Kept (imageIn buffer) (judgeOf buffer g port time frame .row)
+      × (refusalOf buffer g port time frame ≡ 0 → cell (judgeOf buffer g port time frame .row) last 0 ≡ time)
+  alone-kept =
+      by-cases buffer g port time frame (λ (j : Judged). Kept (imageIn buffer) (j .row) × (refusalOf buffer g port time frame ≡ 0 → cell (j .row) last 0 ≡ time))
+      (λ z. (k, λ e. absurd (z e)))
+      (λ a n e. note a g true (ready (imageIn buffer) g time k (a .later)))
+      (λ a w e f z. note a (rowAfter g w time l) true (spent-ready buffer g time l w (a .image) f (ready (imageIn buffer) g time k (a .later))))
+      (λ a w e f z. note a (rowAfter g w time l) false (spent-ready buffer g time l w (a .image) f (ready (imageIn buffer) g time k (a .later))))
+    where
+      note : Admitted buffer g port time frame → (h : List ℕ) (drop : Bool) → Ready (imageIn buffer) h time
+          → Kept (imageIn buffer) (noted h port time (octetsOf frame) drop) × (refusalOf buffer g port time frame ≡ 0 → cell (noted h port time (octetsOf frame) drop) last 0 ≡ time)
+      note a h drop r = (
+        noted-kept (imageIn buffer) h port time (octetsOf frame) drop r (a .inside) (a .early) (omega arith) (omega (arith, a .short)),
+        λ e. time-noted h port time (octetsOf frame) drop (r .all) (a .inside),
+      )
+
+  -- and each of its replicas: a call keeps the ledger in range
+  pub call-kept : Kept (imageIn buffer) (callOf buffer g port time frame .row)
+  call-kept =
+      call-keeps buffer g port time frame (λ vs h. Kept (imageIn buffer) h × (refusalOf buffer g port time frame ≡ 0 → cell h last 0 ≡ time)) alone-kept
+      (λ e vlan place priority i.
+      record {
+        early = λ vs h v n q p. p;
+        dropped = λ vs h v w q f z p. spent e w f h p;
+        sent = λ vs h v w q f z p. spent e w f h p;
+      })
+      .0
+    where
+      spent : refusalOf buffer g port time frame ≡ 0 → (w : Course) → Sane (imageIn buffer) w → (h : List ℕ)
+          → Kept (imageIn buffer) h × (refusalOf buffer g port time frame ≡ 0 → cell h last 0 ≡ time)
+          → Kept (imageIn buffer) (rowAfter h w time (octetsOf frame)) × (refusalOf buffer g port time frame ≡ 0 → cell (rowAfter h w time (octetsOf frame)) last 0 ≡ time)
+      spent e w f h p =
+          let a = admitted buffer g port time frame e in
+          let r = runs buffer w (a .image) f in
+          let m = r .meter in
+          let q = r .partition in
+          let only : 0 < many last = lit< tt in
+          let now : cell (rowAfter h w time (octetsOf frame)) last 0 ≡ time = simp cells (p .1 e) in
+          let after = spent-ready buffer h time (octetsOf frame) w (a .image) f (ready (imageIn buffer) h time (p .0) (subst (λ (x : ℕ). x ≤ time) (sym (p .1 e)) (le-refl time))) in (
+            record {
+              all = after .all;
+              range =
+                  record {
+                    spaced = after .spaced;
+                    metered = after .metered;
+                    tiled = after .tiled;
+                    timed = λ i b. subst (λ (x : ℕ). cell (rowAfter h w time (octetsOf frame)) since i ≤ x) (sym now) (after .timed i b);
+                    early = subst (λ (x : ℕ). x ≤ latest) (sym now) (a .early);
+                  };
+            },
+            λ z. now,
+          )

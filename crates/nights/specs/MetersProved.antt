@@ -27,8 +27,8 @@ use Rattle.settle.specs.Note.{noted}
 use Rattle.settle.specs.Noted.{credit-kept, since-kept}
 use Rattle.judge.specs.Judge.{planFor, judgeOf, Judges}
 use Rattle.judge.specs.Admitted.{Admitted}
-use Rattle.judge.specs.Laws.{runs}
-use Rattle.judge.specs.After.{rowAfter}
+use Rattle.settle.specs.RunsLaws.{runs}
+use Rattle.settle.specs.After.{rowAfter}
 use Rattle.judge.specs.Cases.{by-cases}
 use Rattle.flat_answers.specs.declared.FlatVerdict.{FlatVerdict}
 use Rattle.flat_answers.specs.Answers.{flatVerdict}

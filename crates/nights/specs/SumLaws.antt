@@ -28,8 +28,8 @@ use Rattle.settle.specs.Note.{countsAt, noted}
 use Rattle.settle.specs.CountableLaws.{counts-kept}
 use Rattle.judge.specs.Judge.{judgeOf}
 use Rattle.judge.specs.Admitted.{Admitted}
-use Rattle.judge.specs.Laws.{runs}
-use Rattle.judge.specs.After.{rowAfter}
+use Rattle.settle.specs.RunsLaws.{runs}
+use Rattle.settle.specs.After.{rowAfter}
 use Rattle.judge.specs.Cases.{by-cases}
 use Rattle.kept.specs.Lists.{same-or-not}
 use Rattle.kept.specs.Fresh.{fresh-zero}

@@ -37,8 +37,8 @@ use Rattle.settle.specs.Noted.{units-kept}
 use Rattle.tile.specs.declared.shares.Asked.{Asked}
 use Rattle.judge.specs.Judge.{planFor, judgeOf}
 use Rattle.judge.specs.Admitted.{Admitted}
-use Rattle.judge.specs.Laws.{runs}
-use Rattle.judge.specs.After.{spentAt, rowAfter}
+use Rattle.settle.specs.RunsLaws.{runs}
+use Rattle.settle.specs.After.{spentAt, rowAfter}
 use Rattle.judge.specs.Cases.{by-cases}
 use Rattle.kept.specs.Lists.{same-or-not}
 use Rattle.kept.specs.Fresh.{fresh-units}

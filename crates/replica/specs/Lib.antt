@@ -2,3 +2,6 @@
 pub mod Replica
 pub mod Replicating
 pub mod ReplicaLaws
+pub mod Keeps
+pub mod ReplicaCases
+pub mod Proved

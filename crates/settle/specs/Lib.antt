@@ -2,6 +2,8 @@
 pub mod Settle
 pub mod Runs
 pub mod RunsLaws
+pub mod After
+pub mod Carried
 pub mod Laws
 pub mod Proved
 pub mod Note

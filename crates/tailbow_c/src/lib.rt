@@ -1,9 +1,10 @@
 // The entries for Rust and C: states, ledgers, verdicts, tiles and records as numbers, answers as numbers, buffers as pointer and length. Only
 // what this crate itself exports is in its archive, so all nine stand here. Each passes on to one leaf, whose promise is its own.
 use flat_answers::FlatTile;
-use flat_answers::FlatVerdict;
+use flat_frames::FlatJudged;
 use flat_lists::FlatRecord;
 use ledger::CELLS;
+use places::PLACES;
 ghost use Rattle.flat_numbers.specs.Flat.{FreshLoad};
 ghost use Rattle.flat_loads.specs.Calls.{WritesFlat, LoadsWords, LoadsBytes};
 ghost use Rattle.flat_frames.specs.Frames.{FreshensFlat, JudgesFlat, ReleasesFlat, TilesFlat};
@@ -49,7 +50,7 @@ pub extern "C" fn tailbow_fresh_ledger(image: &[u32], ledger: &mut [u64; CELLS])
     flat_frames::fresh_ledger(image, ledger)
 }
 
-// A frame that came in at a port at a time in µs.
+// A frame that came in at a port at a time in µs, and its replicas in the lent places.
 #[no_mangle]
 pub extern "C" fn tailbow_judge(
     image: &[u32],
@@ -57,10 +58,11 @@ pub extern "C" fn tailbow_judge(
     port: usize,
     time: u64,
     frame: &[u8],
-) -> FlatVerdict
-    ensures { λ r. ⌜ JudgesFlat (now (image .entry)) (now (ledger .entry)) port time (now (frame .entry)) r (now (ledger .exit)) ⌝ }
+    replicas: &mut [u64; PLACES],
+) -> FlatJudged
+    ensures { λ r. ⌜ JudgesFlat (now (image .entry)) (now (ledger .entry)) port time (now (frame .entry)) (now (replicas .entry)) r (now (ledger .exit)) (now (replicas .exit)) ⌝ }
 {
-    flat_frames::judge(image, ledger, port, time, frame)
+    flat_frames::judge(image, ledger, port, time, frame, replicas)
 }
 
 // One unit of a partition comes back: the refusal's number, 0 for none.

@@ -1,4 +1,4 @@
--- `flat_frames::judge`: the verdict's numbers, and the row.
+-- `flat_frames::judge`: the verdict's numbers, how many replicas, the row and the places.
 use borrow.Author.Needs.{needs}
 use Rattle.flat_frames.specs.FramesLaws.{judges}
 use Rattle.flat_frames.proofs.judge.Statement.{statement}
