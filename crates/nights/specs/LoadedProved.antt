@@ -1,7 +1,7 @@
 -- Demand 1: an image that isn't loaded is never judged; and one that is loaded is never told 30.
 use mathlib.Core.Path.{_≡_, refl, sym, _∙_, ap}
 use mathlib.Core.Bool.{Bool, true, false, cond}
-use mathlib.Core.List.{List}
+use mathlib.Core.List.{List, []}
 use Prim.Native.Nat.{ℕ, _<_}
 use native.Mathlib.Nat.{le-of-suc-le-suc}
 use native.Mathlib.Omega.{arith}
@@ -19,17 +19,22 @@ use Rattle.ledger.specs.Range.{outOfRange, unloaded, standing}
 use Rattle.row.specs.Fresh.{freshOf, noLedger, freshened}
 use Rattle.row.specs.Release.{unreleased, releaseRefusal, released}
 use Rattle.settle.specs.declared.Verdict.the-variants.{Refused}
-use Rattle.settle.specs.Settle.{Judged, judged}
+use Rattle.settle.specs.Settle.{judged}
+use Rattle.places.specs.Places.{laidOver}
+use Rattle.places.specs.PlacesLaws.{laid-none}
+use Rattle.replica.specs.Replica.{replicas}
 use Rattle.judge.specs.Refusal.{mistimed, unjudged, refusalOf}
-use Rattle.judge.specs.Judge.{judgeOf}
-use Rattle.judge.specs.Proved.{refused-unchanged}
+use Rattle.judge.specs.declared.Judgement.{Judgement}
+use Rattle.judge.specs.Judge.{Called, called, callOf, answerOf as answerOfCall}
+use Rattle.judge.specs.Proved.{refused-call}
 use Rattle.tile.specs.declared.shares.Tile.the-variants.{NotLoaded, NoFrames, Shares}
 use Rattle.tile.specs.declared.shares.Asked.{Asked}
 use Rattle.tile.specs.declared.shares.Asked.the-variants as asked
 use Rattle.tile.specs.Tiles.{tileAt, askedOf}
-use Rattle.flat_answers.specs.declared.FlatVerdict.{FlatVerdict}
 use Rattle.flat_answers.specs.declared.FlatTile.{FlatTile}
 use Rattle.flat_answers.specs.Answers.{flatVerdict, flatTile}
+use Rattle.flat_frames.specs.declared.FlatJudged.{FlatJudged}
+use Rattle.flat_frames.specs.Frames.{flatJudged}
 use Rattle.image.specs.Standing.{Unloaded, IsLoaded}
 use Rattle.nights.specs.Loaded.{NeverJudged, NeverThirty}
 use Rattle.nights.specs.RefusedProved.{as-it-was, refused-by, refused-number}
@@ -53,10 +58,10 @@ module _ (buffer : List ℕ) (u : Unloaded buffer) where
   unfolding releaseRefusal
   release-30 g partition = rw (standing-30 g)
 
-  judged-30 : (g : List ℕ) (port time : ℕ) (frame : List ℕ) → judgeOf buffer g port time frame ≡ judged (Refused 30) g
-  judged-30 g port time frame =
+  called-30 : (g : List ℕ) (port time : ℕ) (frame : List ℕ) → callOf buffer g port time frame ≡ called (judged (Refused 30) g) (replicas [] g)
+  called-30 g port time frame =
       let e = refusal-30 g port time frame in
-      refused-unchanged buffer g port time frame (λ z. absurd (omega arith)) ∙ ap (λ (n : ℕ). judged (Refused n) g) e
+      refused-call buffer g port time frame (λ z. absurd (omega arith)) ∙ ap (λ (n : ℕ). called (judged (Refused n) g) (replicas [] g)) e
 
   kept-30 : (g : List ℕ) (partition : ℕ) → released buffer g partition ≡ g
   unfolding released
@@ -74,15 +79,20 @@ module _ (buffer : List ℕ) (u : Unloaded buffer) where
   never-judged =
       record {
         fresh = λ r after p. (p .answer ∙ ap answerOf unloaded-30, p .row ∙ fresh-30);
-        frame = λ g port time bytes r after p.
-            let e = judged-30 g port time bytes in
-            (p .verdict ∙ ap (λ (j : Judged). j .verdict) e, p .row ∙ ap (λ (j : Judged). j .row) e);
+        frame =
+            λ g port time bytes places r after told p.
+            let e = called-30 g port time bytes in
+            (p .answer ∙ ap answerOfCall e, p .row ∙ ap (λ (c : Called). c .row) e, p .laid ∙ ap (λ (c : Called). laidOver (c .replicas) places) e ∙ sym (laid-none places));
         release = λ g partition r after p. (p .answer ∙ ap answerOf (release-30 g partition), p .row ∙ kept-30 g partition);
         tile = λ g q t h p. p .whole ∙ tile-30 g q h;
         fresh-flat = λ r after p. (p .number ∙ unloaded-30, p .row ∙ fresh-30);
-        frame-flat = λ g port time bytes r after p.
-            let e = judged-30 g port time bytes in
-            (p .verdict ∙ ap (λ (j : Judged). flatVerdict (j .verdict)) e, p .row ∙ ap (λ (j : Judged). j .row) e);
+        frame-flat =
+            λ g port time bytes places r after told p.
+            let e = called-30 g port time bytes in (
+              p .answer ∙ ap (λ (c : Called). flatJudged (c .verdict) (length (c .replicas))) e,
+              p .row ∙ ap (λ (c : Called). c .row) e,
+              p .laid ∙ ap (λ (c : Called). laidOver (c .replicas) places) e ∙ sym (laid-none places),
+            );
         release-flat = λ g partition r after p. (p .number ∙ release-30 g partition, p .row ∙ kept-30 g partition);
         tile-flat = λ g q t h p. p .tile ∙ ap flatTile (tile-30 g q h);
       }
@@ -146,7 +156,9 @@ module _ (buffer : List ℕ) (l : IsLoaded buffer) where
   never-thirty =
       record {
         fresh = λ r after p. (p .answer ∙ ap answerOf not-unloaded, p .row ∙ loaded-fresh);
-        frame = λ g port time bytes r after p e. refusal-not g port time bytes (refused-by buffer g port time bytes 30 (sym (p .verdict) ∙ e));
+        frame =
+            λ g port time bytes places r after told p e. refusal-not g port time bytes
+            (refused-by buffer g port time bytes 30 (ap (λ (j : Judgement). j .verdict) (sym (p .answer)) ∙ e));
         release = λ g partition r after p e. release-not g partition (refused-number (releaseRefusal buffer g partition) 30 (sym (p .answer) ∙ e));
         tile =
             λ g q t p. (
@@ -155,9 +167,9 @@ module _ (buffer : List ℕ) (l : IsLoaded buffer) where
             );
         fresh-flat = λ r after p. (p .number ∙ not-unloaded, p .row ∙ loaded-fresh);
         frame-flat =
-            λ g port time bytes r after p k e. refusal-not g port time bytes
-            (ap (λ (j : Judged). flatVerdict (j .verdict) .number) (sym (as-it-was buffer g port time bytes (ap (λ (x : FlatVerdict). x .kind) (sym (p .verdict)) ∙ k)))
-            ∙ ap (λ (x : FlatVerdict). x .number) (sym (p .verdict))
+            λ g port time bytes places r after told p k e. refusal-not g port time bytes
+            (ap (λ (c : Called). flatVerdict (c .verdict) .number) (sym (as-it-was buffer g port time bytes (ap (λ (x : FlatJudged). x .verdict .kind) (sym (p .answer)) ∙ k)))
+            ∙ ap (λ (x : FlatJudged). x .verdict .number) (sym (p .answer))
             ∙ e);
         release-flat = λ g partition r after p e. release-not g partition (sym (p .number) ∙ e);
         tile-flat =

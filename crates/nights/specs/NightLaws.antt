@@ -16,33 +16,45 @@ use Rattle.row.specs.Fresh.{freshOf, noLedger, freshened, Freshened}
 use Rattle.row.specs.Release.{Released}
 use Rattle.row.specs.Proved.{same-refusal, same-release}
 use Rattle.settle.specs.declared.Verdict.{Verdict}
-use Rattle.settle.specs.Settle.{Judged}
-use Rattle.judge.specs.Judge.{Judges}
-use Rattle.judge.specs.Proved.{same-judgement}
+use Rattle.places.specs.PlacesLaws.{heard-over}
+use Rattle.judge.specs.declared.Judgement.{Judgement}
+use Rattle.judge.specs.Judge.{Called, callOf}
+use Rattle.judge.specs.Proved.{same-call}
 use Rattle.tile.specs.declared.shares.Asked.{Asked}
 use Rattle.tile.specs.Tiles.{askedOf, Tiled}
 use Rattle.tile.specs.TilesLaws.{same-tile}
 use Rattle.kept.specs.History.{Event, frame, release, step, after}
 use Rattle.flat_answers.specs.Answers.{flatVerdict, flatTile}
-use Rattle.flat_frames.specs.Frames.{FreshensFlat, JudgesFlat, ReleasesFlat, TilesFlat}
-use Rattle.nights.specs.Nights.{Said, verdict, answer, Run, end, judges, releases, Night, definedAnswer, definedAnswers, AsDefined, SameNight, Alike, AlikeFlat}
+use Rattle.flat_frames.specs.declared.FlatJudged.{FlatJudged}
+use Rattle.flat_frames.specs.Frames.{FreshensFlat, ReleasesFlat, TilesFlat}
+use Rattle.nights.specs.Nights.{Said, Hears, HearsFlat, heardOf, verdict, answer, Run, end, judges, releases, Night, definedAnswer, definedAnswers, AsDefined, SameNight, Alike, AlikeFlat}
 
 -- Rattle's entries say it as it is
-pub as-defined : (buffer : List ℕ) → AsDefined (λ (v : Verdict). v) answerOf (λ (t : Asked). t) buffer (Freshened buffer) (Judges buffer) (Released buffer) (Tiled buffer)
+pub as-defined : (buffer : List ℕ) → AsDefined (heardOf (λ (v : Verdict). v)) answerOf (λ (t : Asked). t) buffer (Freshened buffer) (Hears buffer) (Released buffer) (Tiled buffer)
 as-defined buffer =
     record {
       fresh = λ a g p. (p .answer, p .row);
-      judge = λ g port time bytes v h p. (p .verdict, p .row);
+      judge =
+          λ g port time bytes v h p.
+          let c = callOf buffer g port time bytes in
+          let a = p .call .answer in
+          let e = p .first ∙ heard-over (c .replicas) (p .places) (p .told) (p .count) (ap (λ (j : Judgement). j .replicas) a) (p .call .laid) in
+          (λ i. record { own = a i .verdict; replicas = e i }, p .call .row);
       release = λ g partition a h p. (p .answer, p .row);
       tile = λ g p t q. q .whole;
     }
 
 -- those for C and Rust by its numbers
-pub as-defined-flat : (buffer : List ℕ) → AsDefined flatVerdict (λ (n : ℕ). n) flatTile buffer (FreshensFlat buffer) (JudgesFlat buffer) (ReleasesFlat buffer) (TilesFlat buffer)
+pub as-defined-flat : (buffer : List ℕ) → AsDefined (heardOf flatVerdict) (λ (n : ℕ). n) flatTile buffer (FreshensFlat buffer) (HearsFlat buffer) (ReleasesFlat buffer) (TilesFlat buffer)
 as-defined-flat buffer =
     record {
       fresh = λ a g p. (p .number, p .row);
-      judge = λ g port time bytes v h p. (p .verdict, p .row);
+      judge =
+          λ g port time bytes v h p.
+          let c = callOf buffer g port time bytes in
+          let a = p .call .answer in
+          let e = p .first ∙ heard-over (c .replicas) (p .places) (p .told) (p .count) (ap (λ (j : FlatJudged). j .replicas) a) (p .call .laid) in
+          (λ i. record { own = a i .verdict; replicas = e i }, p .call .row);
       release = λ g partition a h p. (p .number, p .row);
       tile = λ g p t q. q .tile;
     }
@@ -51,7 +63,7 @@ as-defined-flat buffer =
 pub not-refused : (buffer g : List ℕ) → Freshened buffer Done g → unloaded buffer ≡ 0
 not-refused buffer g p = sym (numbered (unloaded buffer)) ∙ ap numberOf (sym (p .answer))
 
-module _ {Verdicts Answers Tiles : Type 0} {asVerdict : Verdict → Verdicts} {asAnswer : ℕ → Answers} {asTile : Asked → Tiles} {buffer : List ℕ}
+module _ {Verdicts Answers Tiles : Type 0} {asVerdict : Called → Verdicts} {asAnswer : ℕ → Answers} {asTile : Asked → Tiles} {buffer : List ℕ}
     {Fresh : Answers → List ℕ → Type 0} {Judge : List ℕ → ℕ → ℕ → List ℕ → Verdicts → List ℕ → Type 0} {Release : List ℕ → ℕ → Answers → List ℕ → Type 0}
     {Tile : List ℕ → ℕ → Tiles → Type 0} (says : AsDefined asVerdict asAnswer asTile buffer Fresh Judge Release Tile) where
   -- one event more, answered x with row h
@@ -115,16 +127,16 @@ module _ (a b : List ℕ) (long : tooShort a ≡ tooShort b) (image : imageIn a 
       ∙ ap (λ (i : List ℕ). cond (eqb (unloaded b) 0) (freshOf i) noLedger) image
 
   same-step : (g : List ℕ) (e : Event) → step a g e ≡ step b g e
-  same-step g (frame port time bytes) = ap (λ (j : Judged). j .row) (same-judgement a b long image g port time bytes)
+  same-step g (frame port time bytes) = ap (λ (j : Called). j .row) (same-call a b long image g port time bytes)
   same-step g (release partition) = same-release a b long image g partition
 
   same-after : (g : List ℕ) (es : List Event) → after a g es ≡ after b g es
   same-after g [] = refl
   same-after g (e ∷ es) = ap (λ (x : List ℕ). after a x es) (same-step g e) ∙ same-after (step b g e) es
 
-  module _ {Verdicts Answers : Type 0} (asVerdict : Verdict → Verdicts) (asAnswer : ℕ → Answers) where
+  module _ {Verdicts Answers : Type 0} (asVerdict : Called → Verdicts) (asAnswer : ℕ → Answers) where
     same-told : (g : List ℕ) (e : Event) → definedAnswer asVerdict asAnswer a g e ≡ definedAnswer asVerdict asAnswer b g e
-    same-told g (frame port time bytes) = ap (λ (j : Judged). verdict (asVerdict (j .verdict))) (same-judgement a b long image g port time bytes)
+    same-told g (frame port time bytes) = ap (λ (j : Called). verdict (asVerdict j)) (same-call a b long image g port time bytes)
     same-told g (release partition) = ap (λ (n : ℕ). answer (asAnswer n)) (same-refusal a b long image g partition)
 
     same-said : (g : List ℕ) (es : List Event) → definedAnswers asVerdict asAnswer a g es ≡ definedAnswers asVerdict asAnswer b g es
@@ -175,14 +187,14 @@ pub same-night : (a b : List ℕ) → tooShort a ≡ tooShort b → imageIn a �
 same-night a b long image =
     record {
       same =
-          λ es m n. then (night-is (as-defined a) m) (then (same-defined a b long image (λ (v : Verdict). v) answerOf (λ (t : Asked). t) es) (back (night-is (as-defined b) n)));
+          λ es m n. then (night-is (as-defined a) m) (then (same-defined a b long image (heardOf (λ (v : Verdict). v)) answerOf (λ (t : Asked). t) es) (back (night-is (as-defined b) n)));
     }
 
 -- and at the entries for C and Rust
 pub same-night-flat : (a b : List ℕ) → tooShort a ≡ tooShort b → imageIn a ≡ imageIn b → AlikeFlat a b
 same-night-flat a b long image =
     record {
-      same = λ es m n. then (night-is (as-defined-flat a) m) (then (same-defined a b long image flatVerdict (λ (k : ℕ). k) flatTile es) (back (night-is (as-defined-flat b) n)));
+      same = λ es m n. then (night-is (as-defined-flat a) m) (then (same-defined a b long image (heardOf flatVerdict) (λ (k : ℕ). k) flatTile es) (back (night-is (as-defined-flat b) n)));
     }
 
 -- two buffers with room and one image

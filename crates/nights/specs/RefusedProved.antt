@@ -1,9 +1,10 @@
 -- Demand 1, of frames, releases and ledgers: what a refused call leaves, here and at the entries for C and Rust.
 use mathlib.Core.Path.{_≡_, refl, sym, _∙_, ap}
 use mathlib.Core.Bool.{true}
-use mathlib.Core.List.{List}
+use mathlib.Core.List.{List, []}
 use Prim.Native.Nat.{ℕ}
 use native.Mathlib.Omega.{arith}
+use lib.ListN.{length}
 use Rattle.laws.specs.Chain.{at-zero, not-zero}
 use Rattle.image.specs.Layout.{imageIn}
 use Rattle.ledger.specs.declared.Answer.{Answer}
@@ -18,36 +19,57 @@ use Rattle.settle.specs.declared.Verdict.{Verdict}
 use Rattle.settle.specs.declared.Verdict.the-variants.{Refused}
 use Rattle.settle.specs.Settle.{Judged, judged}
 use Rattle.judge.specs.Refusal.{refusalOf}
-use Rattle.judge.specs.Judge.{judgeOf, Judges}
+use Rattle.places.specs.Places.{laidOver}
+use Rattle.places.specs.PlacesLaws.{laid-none}
+use Rattle.replica.specs.Replica.{replicas}
+use Rattle.judge.specs.declared.Judgement.{Judgement}
+use Rattle.judge.specs.Judge.{judgeOf, Called, called, callOf, Judges}
 use Rattle.judge.specs.Cases.{by-cases}
-use Rattle.flat_answers.specs.declared.FlatVerdict.{FlatVerdict}
+use Rattle.judge.specs.Proved.{own-verdict, refused-call}
 use Rattle.flat_answers.specs.Answers.{flatVerdict}
+use Rattle.flat_frames.specs.declared.FlatJudged.{FlatJudged}
 use Rattle.flat_frames.specs.Frames.{FreshensFlat, JudgesFlat, ReleasesFlat}
 
 -- ---- a frame
 module _ (buffer g : List ℕ) (port time : ℕ) (frame : List ℕ) where
-  -- a verdict of kind 0 is the refusal, with the row as it was
-  pub as-it-was : flatVerdict (judgeOf buffer g port time frame .verdict) .kind ≡ 0
-      → judgeOf buffer g port time frame ≡ judged (Refused (refusalOf buffer g port time frame)) g
-  as-it-was =
-      by-cases buffer g port time frame (λ (j : Judged). flatVerdict (j .verdict) .kind ≡ 0 → j ≡ judged (Refused (refusalOf buffer g port time frame)) g)
-      (λ z e. refl) (λ a n q e. absurd (omega arith)) (λ a w q f z e. absurd (omega arith)) (λ a w q f z e. absurd (omega arith))
+  refuses : flatVerdict (judgeOf buffer g port time frame .verdict) .kind ≡ 0 → refusalOf buffer g port time frame ≡ 0 → ⊥
+  refuses =
+      by-cases buffer g port time frame (λ (j : Judged). flatVerdict (j .verdict) .kind ≡ 0 → refusalOf buffer g port time frame ≡ 0 → ⊥) (λ z e. z)
+      (λ a n q e. absurd (omega arith)) (λ a w q f z e. absurd (omega arith)) (λ a w q f z e. absurd (omega arith))
+
+  -- a verdict of kind 0 is the refusal, with no replica and the row as it was
+  pub as-it-was : flatVerdict (callOf buffer g port time frame .verdict) .kind ≡ 0
+      → callOf buffer g port time frame ≡ called (judged (Refused (refusalOf buffer g port time frame)) g) (replicas [] g)
+  as-it-was e =
+      refused-call buffer g port time frame (refuses (ap (λ (v : Verdict). flatVerdict v .kind) (sym (own-verdict buffer g port time frame)) ∙ e))
 
   -- the number that a refused frame is told is what refuses it
-  pub refused-by : (n : ℕ) → judgeOf buffer g port time frame .verdict ≡ Refused n → refusalOf buffer g port time frame ≡ n
+  pub refused-by : (n : ℕ) → callOf buffer g port time frame .verdict ≡ Refused n → refusalOf buffer g port time frame ≡ n
   refused-by n e =
       ap (λ (v : Verdict). flatVerdict v .number)
-      (sym (ap (λ (j : Judged). j .verdict) (as-it-was (ap (λ (v : Verdict). flatVerdict v .kind) e))) ∙ e)
+      (sym (ap (λ (c : Called). c .verdict) (as-it-was (ap (λ (v : Verdict). flatVerdict v .kind) e))) ∙ e)
 
-  -- "a refused frame changes nothing"
-  pub refused-frame-keeps-the-row : (n : ℕ) (r : Verdict) (after : List ℕ) → Judges buffer g port time frame r after → r ≡ Refused n → after ≡ g
-  refused-frame-keeps-the-row n r after p e =
-      p .row ∙ ap (λ (j : Judged). j .row) (as-it-was (ap (λ (v : Verdict). flatVerdict v .kind) (sym (p .verdict) ∙ e)))
+  -- "a refused frame changes nothing": it has no replica, and the row and the lent places are as found
+  pub refused-frame-keeps-all : (places : List ℕ) (n : ℕ) (r : Judgement) (after told : List ℕ) → Judges buffer g port time frame places r after told
+      → r .verdict ≡ Refused n
+      → (r .replicas ≡ 0) × (after ≡ g) × (told ≡ places)
+  refused-frame-keeps-all places n r after told p e =
+      let q = as-it-was (ap (λ (v : Verdict). flatVerdict v .kind) (ap (λ (j : Judgement). j .verdict) (sym (p .answer)) ∙ e)) in (
+        ap (λ (j : Judgement). j .replicas) (p .answer) ∙ ap (λ (c : Called). length (c .replicas)) q,
+        p .row ∙ ap (λ (c : Called). c .row) q,
+        p .laid ∙ ap (λ (c : Called). laidOver (c .replicas) places) q ∙ sym (laid-none places),
+      )
 
-  -- and at the entry for C and Rust, where kind 0 is a refusal
-  pub refused-frame-keeps-the-lent-ledger : (r : FlatVerdict) (after : List ℕ) → JudgesFlat buffer g port time frame r after → r .kind ≡ 0 → after ≡ g
-  refused-frame-keeps-the-lent-ledger r after p e =
-      p .row ∙ ap (λ (j : Judged). j .row) (as-it-was (ap (λ (v : FlatVerdict). v .kind) (sym (p .verdict)) ∙ e))
+  -- and at the entry for C and Rust
+  pub refused-frame-keeps-all-lent : (places : List ℕ) (r : FlatJudged) (after told : List ℕ) → JudgesFlat buffer g port time frame places r after told
+      → r .verdict .kind ≡ 0
+      → (r .replicas ≡ 0) × (after ≡ g) × (told ≡ places)
+  refused-frame-keeps-all-lent places r after told p e =
+      let q = as-it-was (ap (λ (j : FlatJudged). j .verdict .kind) (sym (p .answer)) ∙ e) in (
+        ap (λ (j : FlatJudged). j .replicas) (p .answer) ∙ ap (λ (c : Called). length (c .replicas)) q,
+        p .row ∙ ap (λ (c : Called). c .row) q,
+        p .laid ∙ ap (λ (c : Called). laidOver (c .replicas) places) q ∙ sym (laid-none places),
+      )
 
 -- ---- a refusal's number
 -- an answer that is a refusal is its number's

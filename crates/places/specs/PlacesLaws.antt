@@ -98,3 +98,9 @@ heard-laid (v ∷ vs) rest =
     ∙ ap (λ (l : List ℕ). l ∷ heard (length vs) (drop (length (tenOf v)) (tenOf v ++ (laid vs ++ rest)))) (take-append-seam (tenOf v) (laid vs ++ rest))
     ∙ ap (λ (l : List ℕ). tenOf v ∷ heard (length vs) l) (drop-append-seam (tenOf v) (laid vs ++ rest))
     ∙ ap (λ (l : List (List ℕ)). tenOf v ∷ l) (heard-laid vs rest)
+
+-- and so are n places that hold them over what stood there
+pub heard-over : (vs : List Verdict) (places told : List ℕ) (n : ℕ) → n ≡ length vs → told ≡ laidOver vs places → heard n told ≡ map tenOf vs
+unfolding laidOver
+heard-over vs places told n k e =
+    ap (λ (m : ℕ). heard m told) k ∙ ap (heard (length vs)) e ∙ heard-laid vs (drop (10 * length vs) places)
