@@ -1,6 +1,6 @@
--- What a plan tells: a drop is one of steps 1 to 8, and a course is that of the frame's own policing entry.
-use mathlib.Core.Path.{_≡_, refl, subst}
-use mathlib.Core.Bool.{Bool, true, false, cond, not}
+-- What a plan tells: a drop is one of steps 1 to 8, and a course, a replica's too, is that of the frame's own policing entry.
+use mathlib.Core.Path.{_≡_, refl, sym, _∙_, ap, subst}
+use mathlib.Core.Bool.{Bool, true, false, cond, not, true≢false}
 use mathlib.Core.List.{List}
 use Prim.Native.Nat.{ℕ, _≤_}
 use lib.Dec.{ltb, leb, eqb, lit≤}
@@ -27,6 +27,7 @@ use Rattle.addresses.specs.Address.{barred}
 use Rattle.plan.specs.Enter.{byPlace, byIntake, enterOf}
 use Rattle.plan.specs.Police.{policerOf, policedOf}
 use Rattle.plan.specs.Plan.{courseOf, byPolicer, planOf}
+use Rattle.replica.specs.Replica.{byPlaced, replicaPlan}
 use Rattle.judge.specs.Judge.{byEntry, planFor}
 use Rattle.nights.specs.Policer.{Polices}
 
@@ -109,7 +110,33 @@ module _ (image : List ℕ) (port : ℕ) (frame : List ℕ) where
   plan-drops n e = subst EarlyPlan e plan
 
 -- ---- a course is that of the frame's own policing entry
+
 -- entry k polices a course: its meter is the one that SHARINDX names, its partition PARTITION
+abbrev ByEntry : List ℕ → ℕ → Planned → Type 0
+ByEntry image k (Dropped n) = Unit {0}
+ByEntry image k (Goes w) = (w .meter ≡ sharindx image k) × (w .partition ≡ partition image k)
+
+-- whatever VLAN and place it is made on
+plan-by : (image : List ℕ) (port : ℕ) (frame : List ℕ) (vlan place priority : ℕ)
+    → ByEntry image (policerOf port priority (destinationOf frame)) (planOf image port frame vlan place priority)
+unfolding planOf policedOf courseOf
+plan-by image port frame vlan place priority =
+    police (leb (countOf image Policing) k) (leb (countOf image Policing) (sharindx image k)) (ltb (maxlen image k) (octetsOf frame))
+  where
+    k : ℕ
+    k = policerOf port priority (destinationOf frame)
+
+    police : (s t u : Bool)
+        → ByEntry image (policerOf port priority (destinationOf frame))
+        (byPolicer image port (destinationOf frame) vlan place priority
+        (cond s Unmetered
+        (cond t Unmetered
+        (cond u TooLong (By (policerOf port priority (destinationOf frame)) (sharindx image (policerOf port priority (destinationOf frame))))))))
+    police true t u = tt
+    police false true u = tt
+    police false false true = tt
+    police false false false = (refl, refl)
+
 abbrev OfEntry : List ℕ → ℕ → List ℕ → Planned → Type 0
 OfEntry image port frame (Dropped n) = Unit {0}
 OfEntry image port frame (Goes w) = (k : ℕ) × Polices image port frame k × (w .meter ≡ sharindx image k) × (w .partition ≡ partition image k)
@@ -117,27 +144,65 @@ OfEntry image port frame (Goes w) = (k : ℕ) × Polices image port frame k × (
 -- a course has the meter that SHARINDX of entry k names, and PARTITION of entry k
 pub goes-by : (image : List ℕ) (port : ℕ) (frame : List ℕ) (w : Course) → planFor image port frame ≡ Goes w
     → (k : ℕ) × Polices image port frame k × (w .meter ≡ sharindx image k) × (w .partition ≡ partition image k)
-unfolding planFor planOf policedOf courseOf
+unfolding planFor
 goes-by image port frame w e = subst (OfEntry image port frame) e (go (enterOf image port frame) refl)
   where
-    police : (vlan place priority : ℕ) → enterOf image port frame ≡ entered.In vlan place priority → (s t u : Bool)
-        → OfEntry image port frame
-        (byPolicer image port (destinationOf frame) vlan place priority
-        (cond s Unmetered
-        (cond t Unmetered
-        (cond u TooLong (By (policerOf port priority (destinationOf frame)) (sharindx image (policerOf port priority (destinationOf frame))))))))
-    police vlan place priority q true t u = tt
-    police vlan place priority q false true u = tt
-    police vlan place priority q false false true = tt
-    police vlan place priority q false false false = (
+    with-entry : (vlan place priority : ℕ) → enterOf image port frame ≡ entered.In vlan place priority → (p : Planned)
+        → ByEntry image (policerOf port priority (destinationOf frame)) p
+        → OfEntry image port frame p
+    with-entry vlan place priority q (Dropped n) b = tt
+    with-entry vlan place priority q (Goes x) b = (
       policerOf port priority (destinationOf frame),
       record { vlan = vlan; place = place; priority = priority; entered = q; is = refl },
-      refl,
-      refl,
+      b .0,
+      b .1,
     )
 
     go : (q : Entered) → enterOf image port frame ≡ q → OfEntry image port frame (byEntry image port frame q)
     go (entered.Dropped n) q = tt
     go (entered.In vlan place priority) q =
-        let k = policerOf port priority (destinationOf frame) in
-        police vlan place priority q (leb (countOf image Policing) k) (leb (countOf image Policing) (sharindx image k)) (ltb (maxlen image k) (octetsOf frame))
+        with-entry vlan place priority q (planOf image port frame vlan place priority) (plan-by image port frame vlan place priority)
+
+-- ---- and so is a replica's
+
+module _ (image : List ℕ) (port : ℕ) (frame : List ℕ) (vlan priority : ℕ) where
+  pub replica-by : (w : Course) → replicaPlan image port frame vlan priority ≡ Goes w
+      → (w .meter ≡ sharindx image (policerOf port priority (destinationOf frame)))
+      × (w .partition ≡ partition image (policerOf port priority (destinationOf frame)))
+  unfolding replicaPlan
+  replica-by w e = subst (ByEntry image (policerOf port priority (destinationOf frame))) e (go (placedOf image vlan))
+    where
+      go : (p : Placed) → ByEntry image (policerOf port priority (destinationOf frame)) (byPlaced image port frame vlan priority p)
+      go Absent = tt
+      go (At place) = plan-by image port frame vlan place priority
+
+-- ---- where a frame is dropped at 7 or 8 so is each replica, or at 4
+
+abbrev isGoes : Planned → Bool
+isGoes (Dropped n) = false
+isGoes (Goes w) = true
+
+same-police : (image : List ℕ) (port : ℕ) (frame : List ℕ) (priority vlan place other at : ℕ)
+    → isGoes (planOf image port frame vlan place priority) ≡ isGoes (planOf image port frame other at priority)
+unfolding planOf
+same-police image port frame priority vlan place other at = go (policedOf image port priority (destinationOf frame) (octetsOf frame))
+  where
+    go : (q : Policed) → isGoes (byPolicer image port (destinationOf frame) vlan place priority q) ≡ isGoes (byPolicer image port (destinationOf frame) other at priority q)
+    go Unmetered = refl
+    go TooLong = refl
+    go (By k m) = refl
+
+pub dropped-alike : (image : List ℕ) (port : ℕ) (frame : List ℕ) (vlan place priority other n : ℕ) (w : Course)
+    → enterOf image port frame ≡ entered.In vlan place priority
+    → planFor image port frame ≡ Dropped n
+    → replicaPlan image port frame other priority ≡ Goes w
+    → ⊥
+unfolding planFor replicaPlan
+dropped-alike image port frame vlan place priority other n w i d e = go (placedOf image other) e
+  where
+    own : planOf image port frame vlan place priority ≡ Dropped n
+    own = ap (byEntry image port frame) (sym i) ∙ d
+
+    go : (p : Placed) → byPlaced image port frame other priority p ≡ Goes w → ⊥
+    go Absent q = true≢false (ap isGoes (sym q))
+    go (At at) q = true≢false (ap isGoes (sym q) ∙ sym (same-police image port frame priority vlan place other at) ∙ ap isGoes own)

@@ -2,8 +2,8 @@
 use mathlib.Core.Path.{_≡_, refl, sym, _∙_, ap, subst}
 use mathlib.Core.Logic.{⊎-elim}
 use mathlib.Core.Bool.{Bool, true, false, cond}
-use mathlib.Core.List.{List, [], _∷_}
-use Prim.Native.Nat.{ℕ, _+_, _<_, _≤_, zero-le}
+use mathlib.Core.List.{List, [], _∷_, map}
+use Prim.Native.Nat.{ℕ, _+_, _%_, _<_, _≤_, zero-le}
 use native.Mathlib.Nat.{add-zero, zero-add}
 use native.Mathlib.Omega.{arith}
 use lib.Dec.{eqb, lit<}
@@ -26,11 +26,14 @@ use Rattle.settle.specs.declared.Verdict.the-variants.{Refused, Drop, Sent}
 use Rattle.settle.specs.Settle.{Judged}
 use Rattle.settle.specs.Note.{countsAt, noted}
 use Rattle.settle.specs.CountableLaws.{counts-kept}
-use Rattle.judge.specs.Judge.{judgeOf}
+use Rattle.places.specs.Places.{headOf, tenOf}
+use Rattle.judge.specs.Judge.{judgeOf, Called, callOf}
 use Rattle.judge.specs.Admitted.{Admitted}
 use Rattle.settle.specs.RunsLaws.{runs}
 use Rattle.settle.specs.After.{rowAfter}
-use Rattle.judge.specs.Cases.{by-cases}
+use Rattle.judge.specs.Laws.{admitted}
+use Rattle.judge.specs.Cases.{by-cases, call-keeps}
+use Rattle.judge.specs.Proved.{own-verdict}
 use Rattle.kept.specs.Lists.{same-or-not}
 use Rattle.kept.specs.Fresh.{fresh-zero}
 use Rattle.kept.specs.Kept.{Kept}
@@ -39,7 +42,7 @@ use Rattle.kept.specs.History.{Event, frame, release, step, after}
 use Rattle.kept.specs.HistoryLaws.{step-kept}
 use Rattle.flat_answers.specs.Answers.{flatVerdict}
 use Rattle.nights.specs.Nights.{Said, definedAnswer, definedAnswers}
-use Rattle.nights.specs.Sums.{Kind, refused, dropped as droppedKind, sent, kindOf, kindFlat, sumOver, atPort, frameIn, dropIn, octetsIn, droppedIn, sumsOf}
+use Rattle.nights.specs.Sums.{Kind, refused, dropped as droppedKind, sent, kindOf, kindFlat, kindTen, sumOver, atPort, frameIn, dropIn, octetsIn, droppedIn, sumsOf}
 
 -- ---- what became of a frame, told by numbers
 pub same-kind : (v : Verdict) → kindFlat (flatVerdict v) ≡ kindOf v
@@ -47,8 +50,24 @@ same-kind (Refused n) = refl
 same-kind (Drop n) = refl
 same-kind (Sent s) = refl
 
+-- a replica's kind by its ten numbers is its verdict's
+pub ten-kind : (v : Verdict) → kindTen (tenOf v) ≡ kindOf v
+ten-kind (Refused n) = by (headOf 0 n % 4294967296) (omega arith)
+  where
+    by : (k : ℕ) → k ≡ 0 → cond (eqb k 0) refused (cond (eqb k 1) droppedKind sent) ≡ refused
+    by k e = rw e
+ten-kind (Drop n) = by (headOf 1 n % 4294967296) (omega arith)
+  where
+    by : (k : ℕ) → k ≡ 1 → cond (eqb k 0) refused (cond (eqb k 1) droppedKind sent) ≡ droppedKind
+    by k e = rw e
+ten-kind (Sent s) = refl
+
+pub ten-kinds : (vs : List Verdict) → map kindTen (map tenOf vs) ≡ map kindOf vs
+ten-kinds [] = refl
+ten-kinds (v ∷ vs) = ap (λ (k : Kind). k ∷ map kindTen (map tenOf vs)) (ten-kind v) ∙ ap (λ (ks : List Kind). kindOf v ∷ ks) (ten-kinds vs)
+
 -- ---- what an event takes from a quantity of the row and brings to it, summed over a history
-module _ {Verdicts Answers : Type 0} (asVerdict : Verdict → Verdicts) (asAnswer : ℕ → Answers) (buffer : List ℕ) (quantity : List ℕ → ℕ)
+module _ {Verdicts Answers : Type 0} (asVerdict : Called → Verdicts) (asAnswer : ℕ → Answers) (buffer : List ℕ) (quantity : List ℕ → ℕ)
     (takes brings : Event → Said Verdicts Answers → ℕ) (one : (g : List ℕ) (e : Event) → Kept (imageIn buffer) g
     → quantity (step buffer g e) + takes e (definedAnswer asVerdict asAnswer buffer g e) ≡ quantity g + brings e (definedAnswer asVerdict asAnswer buffer g e)) where
   -- what is left and what was taken is what was there and what was brought
@@ -86,13 +105,13 @@ noted-counts g port time l drop p all inside h = ⊎-elim (λ e. subst Noted e o
         let there : (f : List ℕ) (a v : ℕ) → getD (set f (a + port) v) (a + p) 0 ≡ getD f (a + p) 0 = λ f a v. other-place f a port p v ne in
         rw (ne-eqb p port (λ q. ne (sym q))) (simp (cells, there, only))
 
--- ---- a judgement's counts of port p, by cases
+-- ---- a call's counts of port p, by cases: replicas leave them
 module _ (buffer g : List ℕ) (port time p : ℕ) (bytes : List ℕ) (all : length g ≡ cellCount) (h : p < many frames) (P : Verdict → Counts → Type 0) where
-  counts-cases : ((n : ℕ) → P (Refused n) (countsAt g p))
+  own-counts : ((n : ℕ) → P (Refused n) (countsAt g p))
       → (Admitted buffer g port time bytes → (n : ℕ) → P (Drop n) (cond (eqb p port) (countedOf (countsAt g p) (octetsOf bytes) true) (countsAt g p)))
       → (Admitted buffer g port time bytes → (s : Sending) → P (Sent s) (cond (eqb p port) (countedOf (countsAt g p) (octetsOf bytes) false) (countsAt g p)))
       → P (judgeOf buffer g port time bytes .verdict) (countsAt (judgeOf buffer g port time bytes .row) p)
-  counts-cases none drop send =
+  own-counts none drop send =
       by-cases buffer g port time bytes (λ (j : Judged). P (j .verdict) (countsAt (j .row) p)) (λ z. none _)
       (λ a n e. subst (P (Drop n)) (sym (noted-counts g port time (octetsOf bytes) true p all (a .inside) h)) (drop a n))
       (λ a w e f z. subst (P (Drop _)) (sym (spent a w f true)) (drop a _))
@@ -105,6 +124,25 @@ module _ (buffer g : List ℕ) (port time p : ℕ) (bytes : List ℕ) (all : len
           let r = runs buffer w (a .image) f in
           noted-counts (rowAfter g w time (octetsOf bytes)) port time (octetsOf bytes) drop p (simp length-set all) (a .inside) h
           ∙ ap (λ (c : Counts). cond (eqb p port) (countedOf c (octetsOf bytes) drop) c) (counts-kept g w _ p (r .meter) (r .partition) h)
+
+  replicas-counts : countsAt (callOf buffer g port time bytes .row) p ≡ countsAt (judgeOf buffer g port time bytes .row) p
+  replicas-counts =
+      call-keeps buffer g port time bytes (λ vs x. countsAt x p ≡ countsAt (judgeOf buffer g port time bytes .row) p) refl
+      (λ e vlan place priority i.
+      let a = admitted buffer g port time bytes e in
+      record {
+        early = λ vs x v n q k. k;
+        dropped = λ vs x v w q f z k. let r = runs buffer w (a .image) f in counts-kept x w _ p (r .meter) (r .partition) h ∙ k;
+        sent = λ vs x v w q f z k. let r = runs buffer w (a .image) f in counts-kept x w _ p (r .meter) (r .partition) h ∙ k;
+      })
+
+  counts-cases : ((n : ℕ) → P (Refused n) (countsAt g p))
+      → (Admitted buffer g port time bytes → (n : ℕ) → P (Drop n) (cond (eqb p port) (countedOf (countsAt g p) (octetsOf bytes) true) (countsAt g p)))
+      → (Admitted buffer g port time bytes → (s : Sending) → P (Sent s) (cond (eqb p port) (countedOf (countsAt g p) (octetsOf bytes) false) (countsAt g p)))
+      → P (callOf buffer g port time bytes .verdict) (countsAt (callOf buffer g port time bytes .row) p)
+  counts-cases none drop send =
+      subst (λ (v : Verdict). P v (countsAt (callOf buffer g port time bytes .row) p)) (sym (own-verdict buffer g port time bytes))
+      (subst (P (judgeOf buffer g port time bytes .verdict)) (sym replicas-counts) (own-counts none drop send))
 
 release-counts : (buffer g : List ℕ) (partition p : ℕ) → p < many frames → countsAt (released buffer g partition) p ≡ countsAt g p
 unfolding released
@@ -120,7 +158,7 @@ record Counter (count : Counts → ℕ) (each : Kind → List ℕ → ℕ) : Typ
   drops : (c : Counts) (bytes : List ℕ) → count (countedOf c (octetsOf bytes) true) ≡ count c + each droppedKind bytes
   sends : (c : Counts) (bytes : List ℕ) → count (countedOf c (octetsOf bytes) false) ≡ count c + each sent bytes
 
-module _ {Verdicts Answers : Type 0} (asVerdict : Verdict → Verdicts) (asAnswer : ℕ → Answers) (kind : Verdicts → Kind) (same : (v : Verdict) → kind (asVerdict v) ≡ kindOf v)
+module _ {Verdicts Answers : Type 0} (asVerdict : Called → Verdicts) (asAnswer : ℕ → Answers) (kind : Verdicts → Kind) (same : (c : Called) → kind (asVerdict c) ≡ kindOf (c .verdict))
     (buffer : List ℕ) (p : ℕ) (inside : p < many frames) where
   module _ (count : Counts → ℕ) (each : Kind → List ℕ → ℕ) (c : Counter count each) where
     counted-one : (g : List ℕ) (e : Event) → Kept (imageIn buffer) g
@@ -130,7 +168,7 @@ module _ {Verdicts Answers : Type 0} (asVerdict : Verdict → Verdicts) (asAnswe
         ∙ counts-cases buffer g port time p bytes (k .all) inside (λ v d. count d ≡ count (countsAt g p) + cond (eqb p port) (each (kindOf v) bytes) 0) (λ n. none (eqb p port))
         (λ a n. one true droppedKind (c .drops (countsAt g p) bytes) (eqb p port))
         (λ a s. one false sent (c .sends (countsAt g p) bytes) (eqb p port))
-        ∙ ap (λ (x : Kind). count (countsAt g p) + cond (eqb p port) (each x bytes) 0) (sym (same (judgeOf buffer g port time bytes .verdict)))
+        ∙ ap (λ (x : Kind). count (countsAt g p) + cond (eqb p port) (each x bytes) 0) (sym (same (callOf buffer g port time bytes)))
       where
         none : (t : Bool) → count (countsAt g p) ≡ count (countsAt g p) + cond t (each refused bytes) 0
         none true = sym (ap (λ (x : ℕ). count (countsAt g p) + x) (c .refuses bytes) ∙ add-zero _)

@@ -2,12 +2,12 @@
 use mathlib.Core.Path.{_≡_}
 use mathlib.Core.Logic.{_↔_}
 use mathlib.Core.Bool.{false, cond}
-use mathlib.Core.List.{List, [], _∷_}
-use Prim.Native.Nat.{ℕ, _+_}
+use mathlib.Core.List.{List, [], _∷_, map}
+use Prim.Native.Nat.{ℕ, _+_, _%_}
 use lib.Dec.{eqb}
 use lib.IntN.{pos}
 use lib.Ieee.{Float, binary64, div, ofInt, isNan, toBits}
-use lib.ListN.{length}
+use lib.ListN.{length, getD}
 use Rattle.spend.specs.declared.Counts.{Counts}
 use Rattle.settle.specs.declared.Verdict.{Verdict}
 use Rattle.settle.specs.declared.Verdict.the-variants.{Refused, Drop, Sent}
@@ -20,7 +20,7 @@ use Rattle.kept.specs.History.{Event, frame, release}
 use Rattle.flat_answers.specs.declared.FlatVerdict.{FlatVerdict}
 use Rattle.flat_answers.specs.declared.FlatTile.{FlatTile}
 use Rattle.flat_answers.specs.Answers.{flatShown, shown}
-use Rattle.nights.specs.Nights.{Said, verdict, answer}
+use Rattle.nights.specs.Nights.{Heard, Said, verdict, answer}
 
 -- what became of a frame
 pub data Kind : Type 0 where
@@ -37,6 +37,18 @@ kindOf (Sent s) = sent
 -- for C and Rust by the number of its kind: 0 refused, 1 dropped, 2 sent
 abbrev pub kindFlat : FlatVerdict → Kind
 kindFlat r = cond (eqb (r .kind) 0) refused (cond (eqb (r .kind) 1) dropped sent)
+
+-- of a call it is what became of the frame itself: "tiles count originals only"
+abbrev pub ownKind : {Verdicts : Type 0} → (Verdicts → Kind) → Heard Verdicts → Kind
+ownKind kind h = kind (h .own)
+
+-- a replica's by the first of its ten numbers, "kind + 2^32 × number"
+abbrev pub kindTen : List ℕ → Kind
+kindTen ten = cond (eqb (getD ten 0 0 % 4294967296) 0) refused (cond (eqb (getD ten 0 0 % 4294967296) 1) dropped sent)
+
+-- of the frame and its replicas, in order
+abbrev pub kindsOf : {Verdicts : Type 0} → (Verdicts → Kind) → Heard Verdicts → List Kind
+kindsOf kind h = kind (h .own) ∷ map kindTen (h .replicas)
 
 -- a sum over events and what each was answered
 abbrev pub sumOver : {Verdicts Answers : Type 0} → (Event → Said Verdicts Answers → ℕ) → List Event → List (Said Verdicts Answers) → ℕ

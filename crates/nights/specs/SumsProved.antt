@@ -25,6 +25,7 @@ use Rattle.tile.specs.declared.shares.Asked.{Asked}
 use Rattle.tile.specs.declared.shares.Asked.the-variants.{Shown}
 use Rattle.tile.specs.Tiles.{shareOf, tileOf, askedOf, Tiled, bitsOf}
 use Rattle.tile.specs.Shares.{perfect, share-real}
+use Rattle.judge.specs.Judge.{Called}
 use Rattle.kept.specs.Kept.{Kept}
 use Rattle.kept.specs.KeptLaws.{fresh-kept}
 use Rattle.kept.specs.History.{Event, step, after}
@@ -34,9 +35,9 @@ use Rattle.flat_answers.specs.declared.FlatTile.{FlatTile}
 use Rattle.flat_answers.specs.Answers.{flatShown, flatTile}
 use Rattle.flat_answers.specs.AnswersLaws.{shown-as}
 use Rattle.flat_frames.specs.Frames.{FreshensFlat, TilesFlat}
-use Rattle.nights.specs.Nights.{Said, Run, RunOf, RunFlat, NightOf, NightFlat, AsDefined}
+use Rattle.nights.specs.Nights.{Heard, Said, Run, RunOf, RunFlat, NightOf, NightFlat, AsDefined}
 use Rattle.nights.specs.NightLaws.{as-defined, as-defined-flat, not-refused, fresh-run-is}
-use Rattle.nights.specs.Sums.{Kind, kindOf, kindFlat, sumsOf, tileFrom, divided, Shows, ShowsFlat}
+use Rattle.nights.specs.Sums.{Kind, kindOf, kindFlat, ownKind, sumsOf, tileFrom, divided, Shows, ShowsFlat}
 use Rattle.nights.specs.SumLaws.{same-kind, counts-are-sums, few}
 
 -- what is known of port p's counts c in row z
@@ -69,9 +70,9 @@ module _ (buffer : List ℕ) (given : unloaded buffer ≡ 0) (p : ℕ) (inside :
       }
 
   -- and over what entries permit
-  module _ {Verdicts Answers Tiles : Type 0} {asVerdict : Verdict → Verdicts} {asAnswer : ℕ → Answers} {asTile : Asked → Tiles} {Fresh : Answers → List ℕ → Type 0}
+  module _ {Verdicts Answers Tiles : Type 0} {asVerdict : Called → Verdicts} {asAnswer : ℕ → Answers} {asTile : Asked → Tiles} {Fresh : Answers → List ℕ → Type 0}
       {Judge : List ℕ → ℕ → ℕ → List ℕ → Verdicts → List ℕ → Type 0} {Release : List ℕ → ℕ → Answers → List ℕ → Type 0} {Tile : List ℕ → ℕ → Tiles → Type 0}
-      (says : AsDefined asVerdict asAnswer asTile buffer Fresh Judge Release Tile) (kind : Verdicts → Kind) (same : (v : Verdict) → kind (asVerdict v) ≡ kindOf v) where
+      (says : AsDefined asVerdict asAnswer asTile buffer Fresh Judge Release Tile) (kind : Verdicts → Kind) (same : (c : Called) → kind (asVerdict c) ≡ kindOf (c .verdict)) where
     run-known : {es : List Event} {first : Answers} {g z : List ℕ} {said : List (Said Verdicts Answers)} → Fresh first g → Run Judge Release g es said z
         → Known buffer z p (sumsOf kind p es said)
     run-known {es} {first} {g} {z} {said} f r =
@@ -142,45 +143,45 @@ module _ (buffer z : List ℕ) (p : ℕ) (c : Counts) (k : Known buffer z p c) w
       bits x h = rw h
 
 -- ---- at Rattle's entries
-module _ (buffer : List ℕ) (es : List Event) (g : List ℕ) (said : List (Said Verdict Answer)) (z : List ℕ) (fresh : Freshened buffer Done g)
+module _ (buffer : List ℕ) (es : List Event) (g : List ℕ) (said : List (Said (Heard Verdict) Answer)) (z : List ℕ) (fresh : Freshened buffer Done g)
     (run : RunOf buffer g es said z) (p : ℕ) (inside : p < 5) where
-  known-of : Known buffer z p (sumsOf kindOf p es said)
-  known-of = run-known buffer (not-refused buffer g fresh) p inside (as-defined buffer) kindOf (λ v. refl) fresh run
+  known-of : Known buffer z p (sumsOf (ownKind kindOf) p es said)
+  known-of = run-known buffer (not-refused buffer g fresh) p inside (as-defined buffer) (ownKind kindOf) (λ c. refl) fresh run
 
   -- "Tiles count what was judged": after a fresh ledger and any permitted run, port p's four cells are the four sums over its verdicts
-  pub cells-are-the-sums : countsAt z p ≡ sumsOf kindOf p es said
+  pub cells-are-the-sums : countsAt z p ≡ sumsOf (ownKind kindOf) p es said
   cells-are-the-sums = known-of .counts
 
   -- and its tile is theirs
-  pub tile-shows-the-sums : (t : Asked) → Tiled buffer z p t → Shows (sumsOf kindOf p es said) t
-  tile-shows-the-sums t q = asked-shows buffer z p (sumsOf kindOf p es said) known-of t (q .whole)
+  pub tile-shows-the-sums : (t : Asked) → Tiled buffer z p t → Shows (sumsOf (ownKind kindOf) p es said) t
+  tile-shows-the-sums t q = asked-shows buffer z p (sumsOf (ownKind kindOf) p es said) known-of t (q .whole)
 
 -- ---- at those for C and Rust
-module _ (buffer : List ℕ) (es : List Event) (g : List ℕ) (said : List (Said FlatVerdict ℕ)) (z : List ℕ) (fresh : FreshensFlat buffer 0 g)
+module _ (buffer : List ℕ) (es : List Event) (g : List ℕ) (said : List (Said (Heard FlatVerdict) ℕ)) (z : List ℕ) (fresh : FreshensFlat buffer 0 g)
     (run : RunFlat buffer g es said z) (p : ℕ) (inside : p < 5) where
-  known-flat : Known buffer z p (sumsOf kindFlat p es said)
-  known-flat = run-known buffer (sym (fresh .number)) p inside (as-defined-flat buffer) kindFlat same-kind fresh run
+  known-flat : Known buffer z p (sumsOf (ownKind kindFlat) p es said)
+  known-flat = run-known buffer (sym (fresh .number)) p inside (as-defined-flat buffer) (ownKind kindFlat) (λ c. same-kind (c .verdict)) fresh run
 
   -- the lent ledger's four cells
-  pub cells-are-the-sums-flat : countsAt z p ≡ sumsOf kindFlat p es said
+  pub cells-are-the-sums-flat : countsAt z p ≡ sumsOf (ownKind kindFlat) p es said
   cells-are-the-sums-flat = known-flat .counts
 
   -- and its tile
-  pub tile-shows-the-sums-flat : (t : FlatTile) → TilesFlat buffer z p t → ShowsFlat (sumsOf kindFlat p es said) t
-  tile-shows-the-sums-flat t q = asked-shows-flat buffer z p (sumsOf kindFlat p es said) known-flat t (q .tile)
+  pub tile-shows-the-sums-flat : (t : FlatTile) → TilesFlat buffer z p t → ShowsFlat (sumsOf (ownKind kindFlat) p es said) t
+  tile-shows-the-sums-flat t q = asked-shows-flat buffer z p (sumsOf (ownKind kindFlat) p es said) known-flat t (q .tile)
 
 -- ---- a whole night whose fresh ledger was not refused: each of the five tiles shows its port's sums
-pub night-shows-the-sums : (buffer : List ℕ) (es : List Event) (g : List ℕ) (said : List (Said Verdict Answer)) (z : List ℕ) (tile : ℕ → Asked)
+pub night-shows-the-sums : (buffer : List ℕ) (es : List Event) (g : List ℕ) (said : List (Said (Heard Verdict) Answer)) (z : List ℕ) (tile : ℕ → Asked)
     → NightOf buffer es Done g said z tile
     → (p : ℕ)
     → p < 5
-    → Shows (sumsOf kindOf p es said) (tile p)
+    → Shows (sumsOf (ownKind kindOf) p es said) (tile p)
 night-shows-the-sums buffer es g said z tile n p h = tile-shows-the-sums buffer es g said z (n .fresh) (n .run) p h (tile p) (n .tiles p h)
 
 -- and at the entries for C and Rust
-pub night-shows-the-sums-flat : (buffer : List ℕ) (es : List Event) (g : List ℕ) (said : List (Said FlatVerdict ℕ)) (z : List ℕ) (tile : ℕ → FlatTile)
+pub night-shows-the-sums-flat : (buffer : List ℕ) (es : List Event) (g : List ℕ) (said : List (Said (Heard FlatVerdict) ℕ)) (z : List ℕ) (tile : ℕ → FlatTile)
     → NightFlat buffer es 0 g said z tile
     → (p : ℕ)
     → p < 5
-    → ShowsFlat (sumsOf kindFlat p es said) (tile p)
+    → ShowsFlat (sumsOf (ownKind kindFlat) p es said) (tile p)
 night-shows-the-sums-flat buffer es g said z tile n p h = tile-shows-the-sums-flat buffer es g said z (n .fresh) (n .run) p h (tile p) (n .tiles p h)
