@@ -1,8 +1,7 @@
 -- Rows (a) and (b) of document 01's proved table, two entries of 07 as words and as fields, and two of 12, with nothing else in them.
-use mathlib.Core.Path.{refl, ap}
-use mathlib.Core.List.{List, [], _∷_}
-use Prim.Native.Nat.{ℕ}
-use Rattle.fields.specs.Fields.{number, bits}
+use mathlib.Core.Path.{refl}
+use mathlib.Core.List.{[], _∷_}
+use Rattle.fields.specs.Fields.{number}
 use Rattle.fields.specs.Packed.{Packed, Retags}
 
 -- (a) VLAN 1, all members, all VLAN_BC, no tags
@@ -20,21 +19,9 @@ row-b = record { whole = refl; members = refl; broadcasts = refl; tags = refl; v
 -- port 0 receives, VLAN 1 goes out on VLAN 2
 pub retags-one : Retags (0x80000000 ∷ 0x00400400 ∷ []) 1 1 2
 unfolding number
-retags-one =
-    record {
-      whole = refl;
-      receives = λ image i e. ap (λ (ws : List ℕ). bits (number ws) 58 54) e;
-      ingress = λ image i e. ap (λ (ws : List ℕ). bits (number ws) 53 42) e;
-      egress = λ image i e. ap (λ (ws : List ℕ). bits (number ws) 41 30) e;
-    }
+retags-one = record { whole = refl; receives = λ image i e. rw e; ingress = λ image i e. rw e; egress = λ image i e. rw e }
 
 -- all three at their most: no neighbour's bit is read
 pub retags-most : Retags (0xC0000000 ∷ 0x07FFFFFF ∷ []) 31 4095 4095
 unfolding number
-retags-most =
-    record {
-      whole = refl;
-      receives = λ image i e. ap (λ (ws : List ℕ). bits (number ws) 58 54) e;
-      ingress = λ image i e. ap (λ (ws : List ℕ). bits (number ws) 53 42) e;
-      egress = λ image i e. ap (λ (ws : List ℕ). bits (number ws) 41 30) e;
-    }
+retags-most = record { whole = refl; receives = λ image i e. rw e; ingress = λ image i e. rw e; egress = λ image i e. rw e }
