@@ -28,7 +28,7 @@ pub again-twice : (image : List ℕ) (again : ℕ) (marks : List ℕ) → Vlans 
 again-twice image again marks c = counting-end _ _ _ again _ _ marks c (le-refl _) (le-refl _) refl
 
 -- ---- a search finds one exactly where there is one
-pub first-some : (n : ℕ) (p : ℕ → Bool) → some-below n p ≡ not (eqb (first n p) n)
+first-some : (n : ℕ) (p : ℕ → Bool) → some-below n p ≡ not (eqb (first n p) n)
 unfolding some-below first
 first-some zero p = refl
 first-some (suc n) p = by (first-some n p) (ltb (first n p) n) refl (p n)
