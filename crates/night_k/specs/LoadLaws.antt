@@ -36,6 +36,7 @@ not-unmarked image k m =
       k .counts .spaces,
       k .counts .generals,
       k .counts .modes,
+      k .counts .retags,
     )
 
 -- field by field
