@@ -14,12 +14,12 @@ abbrev pub vlanTwice : List ℕ → Bool
 vlanTwice image = twice (countOf image VlanLookup) (λ i. vlanid image i)
 
 -- a VLAN "has no entry in 07"
-abbrev pub noEntry : List ℕ → ℕ → Bool
-noEntry image v = eqb (vlanAt image v) (countOf image VlanLookup)
+abbrev pub noVlan : List ℕ → ℕ → Bool
+noVlan image v = eqb (vlanAt image v) (countOf image VlanLookup)
 
 -- 22: "some port's VLANID in 09 has no entry in 07"
 abbrev pub vlanMissing : List ℕ → Bool
-vlanMissing image = some-below 5 (λ port. noEntry image (portVlanid image port))
+vlanMissing image = some-below 5 (λ port. noVlan image (portVlanid image port))
 
 -- 23: "some SHARINDX is not below the count of 06"
 abbrev pub sharindxBeyond : List ℕ → Bool
@@ -35,7 +35,7 @@ indexTwice image = twice (countOf image AddressLookup) (λ i. index image i)
 
 -- entry i of 12 has an "ingress or egress VLAN" that "has no entry in 07", whatever its ING_PORT
 abbrev pub stray : List ℕ → ℕ → Bool
-stray image i = cond (noEntry image (vlanIng image i)) true (noEntry image (vlanEgr image i))
+stray image i = cond (noVlan image (vlanIng image i)) true (noVlan image (vlanEgr image i))
 
 -- 28: "when an entry's ingress or egress VLAN has no entry in 07"
 abbrev pub retagStray : List ℕ → Bool

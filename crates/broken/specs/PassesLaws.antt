@@ -15,7 +15,7 @@ use Rattle.image.specs.Layout.{countOf}
 use Rattle.image.specs.declared.tables.Table.the-variants.{VlanLookup}
 use Rattle.fields.specs.Fields.{vlanid}
 use Rattle.lookup.specs.Vlan.{hasVlan}
-use Rattle.broken.specs.Broken.{noEntry, vlanTwice}
+use Rattle.broken.specs.Broken.{noVlan, vlanTwice}
 use Rattle.broken.specs.Passes.{Vlans}
 
 -- ---- a pass over values that marks each
@@ -46,9 +46,9 @@ first-some (suc n) p = by (first-some n p) (ltb (first n p) n) refl (p n)
         ap (λ (b : Bool). b || t) (h ∙ ap not (eq-eqb (first n p) n (le-antisymm (first-within n p) (ltb-false (first n p) n e)))) ∙ here t
 
 -- ---- the mark of a VLAN is 0 exactly where 07 has no entry of it
-pub mark-tells : (image marks : List ℕ) (v : ℕ) → v < 4096 → length marks ≡ 4096 → Marks (countOf image VlanLookup) (vlanid image) marks → eqb (getD marks v 0) 0 ≡ noEntry image v
+pub mark-tells : (image marks : List ℕ) (v : ℕ) → v < 4096 → length marks ≡ 4096 → Marks (countOf image VlanLookup) (vlanid image) marks → eqb (getD marks v 0) 0 ≡ noVlan image v
 mark-tells image marks v l long marked =
-    ap (λ (m : ℕ). eqb m 0) (marked v (lt-of v (length marks) 4096 (sym long) l) ∙ ap flag (first-some (countOf image VlanLookup) (hasVlan image v))) ∙ back (noEntry image v)
+    ap (λ (m : ℕ). eqb m 0) (marked v (lt-of v (length marks) 4096 (sym long) l) ∙ ap flag (first-some (countOf image VlanLookup) (hasVlan image v))) ∙ back (noVlan image v)
   where
     back : (b : Bool) → eqb (flag (not b)) 0 ≡ b
     back true = refl

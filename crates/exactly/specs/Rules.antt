@@ -30,12 +30,12 @@ abbrev pub Twice : ℕ → (ℕ → ℕ) → Type 0
 Twice n f = Some n (λ j. Some j (λ i. f i ≡ f j))
 
 -- a VLAN "has no entry in 07"
-abbrev pub NoEntry : List ℕ → ℕ → Type 0
-NoEntry image vlan = (i : ℕ) → i < countOf image VlanLookup → vlanid image i ≡ vlan → ⊥
+abbrev pub NoVlan : List ℕ → ℕ → Type 0
+NoVlan image vlan = (i : ℕ) → i < countOf image VlanLookup → vlanid image i ≡ vlan → ⊥
 
 -- 22: "some port's VLANID in 09 has no entry in 07"
 abbrev pub Missing : List ℕ → Type 0
-Missing image = Some 5 (λ port. NoEntry image (portVlanid image port))
+Missing image = Some 5 (λ port. NoVlan image (portVlanid image port))
 
 -- 23: "some SHARINDX is not below the count of 06"
 abbrev pub Beyond : List ℕ → Type 0
@@ -47,7 +47,7 @@ Over image = 929 < total 8 (λ j. partSpc image j)
 
 -- 28: "when an entry's ingress or egress VLAN has no entry in 07"
 abbrev pub Stray : List ℕ → Type 0
-Stray image = Some (countOf image Retagging) (λ i. NoEntry image (vlanIng image i) ⊎ NoEntry image (vlanEgr image i))
+Stray image = Some (countOf image Retagging) (λ i. NoVlan image (vlanIng image i) ⊎ NoVlan image (vlanEgr image i))
 
 -- "Loading rules, run once the end block has passed, in this order", and document 02's "28, after 25"
 abbrev pub rulesPage : List ℕ → List Clause

@@ -15,13 +15,13 @@ use Rattle.image.specs.Layout.{imageIn, countOf}
 use Rattle.image.specs.SoundLaws.{held}
 use Rattle.image.specs.declared.tables.Table.the-variants.{VlanLookup}
 use Rattle.fields.specs.Fields.{vlanid, portVlanid}
-use Rattle.broken.specs.Broken.{noEntry, vlanMissing}
+use Rattle.broken.specs.Broken.{noVlan, vlanMissing}
 use Rattle.broken.specs.PassesLaws.{mark-tells}
 use Rattle.broken.proofs.vlan_missing.Statement.{statement}
 use Rattle.broken.proofs.vlan_missing.Tie as tie
 
 abbrev missing : List ℕ → ℕ → Bool
-missing image port = noEntry image (portVlanid image port)
+missing image port = noVlan image (portVlanid image port)
 
 abbrev Inv-loop : tie.InvT-loop
 Inv-loop image marks port₀ port = (port ≤ 5) × (some-below port (missing (imageIn image)) ≡ false)
@@ -32,7 +32,7 @@ abbrev μ-loop : tie.MeasureT-loop
 -- The mark of a port's VLANID v tells. A loop over n ports, of the five, is right to stop at one.
 module _ (image marks : List ℕ) (port v : ℕ) (e : v ≡ portVlanid image port) (l : v < 4096) (long : length marks ≡ 4096) (marked : Marks (countOf image VlanLookup) (vlanid image) marks) where
   told : missing image port ≡ eqb (getD marks v 0) 0
-  told = sym (mark-tells image marks v l long marked ∙ ap (noEntry image) e)
+  told = sym (mark-tells image marks v l long marked ∙ ap (noVlan image) e)
 
   unmarked : (n : ℕ) → port < n → n ≤ 5 → getD marks v 0 ≡ 0 → true ≡ vlanMissing image
   unmarked n h m z = sym (some-found 5 port (missing image) (lt-of-lt-of-le h m) (told ∙ eq-eqb _ 0 z))
