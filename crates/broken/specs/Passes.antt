@@ -1,4 +1,4 @@
--- The marks of all VLANIDs of 07, which rules 21 and 22 share.
+-- The marks of all VLANIDs of 07, which rules 21, 22 and 28 share.
 use mathlib.Core.List.{List}
 use Prim.Native.Nat.{ℕ}
 use Rattle.laws.specs.Scan.{Counting}

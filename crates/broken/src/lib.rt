@@ -1,15 +1,15 @@
-// The tests of the loading rules after 20: is it broken? One pass each; 21 and 22 share theirs. Their numbers and their order are said in `rules`.
+// The tests of the loading rules after 20: is it broken? One pass each; 21, 22 and 28 share the one over 07. Their numbers and their order are said in `rules`.
 use image::count;
 use image::tables::Table;
 ghost use mathlib.Core.Path.{_≡_};
 ghost use Prim.Native.Nat.{_<_};
 ghost use lib.ListN.{length};
-ghost use Rattle.image.specs.Layout.{imageIn, countOf};
+ghost use Rattle.image.specs.Layout.{Held, imageIn, countOf};
 ghost use Rattle.image.specs.Sound.{Bounded};
-ghost use Rattle.image.specs.declared.tables.Table.the-variants.{VlanLookup, MacConfiguration, ForwardingParameters};
+ghost use Rattle.image.specs.declared.tables.Table.the-variants.{VlanLookup, MacConfiguration, ForwardingParameters, Retagging};
 ghost use Rattle.fields.specs.Fields.{vlanid};
 ghost use Rattle.laws.specs.Scan.{Marks};
-ghost use Rattle.broken.specs.Broken.{vlanMissing, sharindxBeyond, spaceOver, indexTwice};
+ghost use Rattle.broken.specs.Broken.{vlanMissing, sharindxBeyond, spaceOver, indexTwice, stray, retagStray};
 ghost use Rattle.broken.specs.Passes.{Vlans};
 
 // How many values a field has, by its bits in the manual: 12 for a VLANID, 10 for an INDEX. They are no table's size.
@@ -23,7 +23,7 @@ fn wide(x: u8) -> usize
     x as usize
 }
 
-// What one pass over 07 leaves for rules 21 and 22: a mark for each VLANID, and how often a mark was set already when its VLANID came.
+// What one pass over 07 leaves for rules 21, 22 and 28: a mark for each VLANID, and how often a mark was set already when its VLANID came.
 pub struct Seen {
     pub again: usize,
     pub marks: [u8; VLANIDS],
@@ -112,4 +112,33 @@ pub fn space_over(image: &[u32]) -> bool
         j += 1;
     }
     929 < sum
+}
+
+// Entry i of 12 has a VLAN without a mark: its VLAN_ING or its VLAN_EGR.
+fn stray(image: &[u32], marks: &[u8; VLANIDS], i: usize) -> bool
+    requires { ⌜ Held Retagging i (now image) ⌝ }
+    requires { ⌜ (length (now marks) ≡ 4096) × Marks (countOf (imageIn (now image)) VlanLookup) (vlanid (imageIn (now image))) (now marks) ⌝ }
+    ensures { λ r. ⌜ r ≡ stray (imageIn (now (image .entry))) i ⌝ }
+{
+    if marks[fields::retagging::vlan_ing(image, i) as usize] == 0 {
+        return true;
+    }
+    marks[fields::retagging::vlan_egr(image, i) as usize] == 0
+}
+
+// Rule 28: each entry of 12, whatever its ING_PORT, by the marks that rule 22 asks.
+pub fn retag_stray(image: &[u32], marks: &[u8; VLANIDS]) -> bool
+    requires { ⌜ Bounded (now image) ⌝ }
+    requires { ⌜ (length (now marks) ≡ 4096) × Marks (countOf (imageIn (now image)) VlanLookup) (vlanid (imageIn (now image))) (now marks) ⌝ }
+    ensures { λ r. ⌜ r ≡ retagStray (imageIn (now (image .entry))) ⌝ }
+{
+    let n = count(image, Table::Retagging);
+    let mut i: usize = 0;
+    while i < n {
+        if stray(image, marks, i) {
+            return true;
+        }
+        i += 1;
+    }
+    false
 }

@@ -3,7 +3,7 @@ use mathlib.Core.Path.{_≡_}
 use mathlib.Core.List.{List}
 use Prim.Native.Nat.{ℕ, _+_, _<_}
 use Rattle.image.specs.Layout.{countOf}
-use Rattle.image.specs.declared.tables.Table.the-variants.{AddressLookup, Policing, VlanLookup, Forwarding, MacConfiguration, LookupParameters, ForwardingParameters, GeneralParameters, XmiiModeParameters}
+use Rattle.image.specs.declared.tables.Table.the-variants.{AddressLookup, Policing, VlanLookup, Forwarding, MacConfiguration, LookupParameters, ForwardingParameters, GeneralParameters, XmiiModeParameters, Retagging}
 use Rattle.fields.specs.Fields.{sharindx, smax, rate, maxlen, partition, vmembPort, vlanBc, tagPort, vlanid, bcDomain, reachPort, flDomain, vlanPmap, vlanprio, portVlanid, drpuntag, egress, ingress, partSpc}
 use Rattle.config_k.specs.Tables.{others}
 
@@ -11,7 +11,7 @@ use Rattle.config_k.specs.Tables.{others}
 abbrev pub each : ℕ → (ℕ → ℕ) → (ℕ → ℕ) → Type 0
 each n f g = (i : ℕ) → i < n → f i ≡ g i
 
--- the entries that each table has: "05 and 0D absent" is no entry, and not one zero entry
+-- the entries that each table has: "05 and 0D absent" is no entry, and not one zero entry; nor has K one of 12
 pub record Counts (image : List ℕ) : Type 0 where
   pub addresses : countOf image AddressLookup ≡ 0
   pub policers : countOf image Policing ≡ 45
@@ -22,6 +22,7 @@ pub record Counts (image : List ℕ) : Type 0 where
   pub spaces : countOf image ForwardingParameters ≡ 1
   pub generals : countOf image GeneralParameters ≡ 1
   pub modes : countOf image XmiiModeParameters ≡ 1
+  pub retags : countOf image Retagging ≡ 0
 
 -- "45 policing entries, SHARINDX itself, SMAX 65535, RATE 64000, MAXLEN 1518, PARTITION 0"
 pub record Policed (image : List ℕ) : Type 0 where

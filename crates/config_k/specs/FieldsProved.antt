@@ -16,7 +16,7 @@ use Rattle.image.specs.Rows.{room, rowOf, sizeOf}
 use Rattle.image.specs.Layout.{listOf, imageOf}
 use Rattle.image.specs.declared.tables.Table.{Table}
 use Rattle.image.specs.Images.{layout-entry, layout-count}
-use Rattle.image.specs.declared.tables.Table.the-variants.{AddressLookup, Policing, VlanLookup, Forwarding, MacConfiguration, LookupParameters, ForwardingParameters, GeneralParameters, XmiiModeParameters}
+use Rattle.image.specs.declared.tables.Table.the-variants.{AddressLookup, Policing, VlanLookup, Forwarding, MacConfiguration, LookupParameters, ForwardingParameters, GeneralParameters, XmiiModeParameters, Retagging}
 use Rattle.fields.specs.Fields.{number, bits, fieldOf}
 use Rattle.config_k.specs.Tables.{others, kTables}
 use Rattle.config_k.specs.Fields.{each, Counts, Policed, OneVlan, Forwarded, Ports, Spaces, IsK}
@@ -86,6 +86,7 @@ k-counts =
       spaces = layout-count 1 kTables ForwardingParameters;
       generals = layout-count 1 kTables GeneralParameters;
       modes = layout-count 1 kTables XmiiModeParameters;
+      retags = layout-count 1 kTables Retagging;
     }
 
 pub k-policed : Policed (imageOf kTables)

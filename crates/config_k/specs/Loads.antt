@@ -13,7 +13,7 @@ use Rattle.image.specs.Layout.{imageOf}
 use Rattle.image.specs.Blocks.{blockOf}
 use Rattle.fields.specs.Fields.{vlanid, index}
 use Rattle.image.specs.Loaded.{incomplete}
-use Rattle.broken.specs.Broken.{vlanTwice, vlanMissing, sharindxBeyond, spaceOver, indexTwice}
+use Rattle.broken.specs.Broken.{vlanTwice, vlanMissing, sharindxBeyond, spaceOver, indexTwice, stray, retagStray}
 use Rattle.rules.specs.Rules.{ruled}
 use Rattle.stream.specs.Paper.{Outcome, passed, blocks, framed, refusedWith, outcomeOf, loaded}
 use Rattle.config_k.specs.Stream.{K}
@@ -71,9 +71,13 @@ module _ (image : List ℕ) (k : IsK image) where
   unfolding twice some-below
   not25 = ap (λ (n : ℕ). twice n (λ i. index image i)) (k .counts .addresses)
 
+  not28 : retagStray image ≡ false
+  unfolding some-below
+  not28 = ap (λ (n : ℕ). some-below n (stray image)) (k .counts .retags)
+
   keeps : ruled image ≡ 0
   unfolding ruled
-  keeps = rw (not20, not21, not22, not23, not24, not25)
+  keeps = rw (not20, not21, not22, not23, not24, not25, not28)
 
 pub k-ruled : ruled (imageOf kTables) ≡ 0
 k-ruled = keeps (imageOf kTables) k-fields

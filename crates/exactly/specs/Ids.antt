@@ -7,11 +7,11 @@ use Rattle.image.specs.Blocks.{table2, listed, blockOf}
 use Rattle.image.specs.declared.tables.Block.{Block}
 use Rattle.image.specs.declared.tables.Block.the-variants.{Carried, NotCarried, Unknown}
 
--- "the table above": document 01's IDs
+-- "the table above": document 01's IDs, and document 02's behind them: "4 no longer covers ID 12"
 abbrev pub carriedIds : List ℕ
-carriedIds = 0x05 ∷ 0x06 ∷ 0x07 ∷ 0x08 ∷ 0x09 ∷ 0x0D ∷ 0x0E ∷ 0x11 ∷ 0x4E ∷ []
+carriedIds = 0x05 ∷ 0x06 ∷ 0x07 ∷ 0x08 ∷ 0x09 ∷ 0x0D ∷ 0x0E ∷ 0x11 ∷ 0x4E ∷ 0x12 ∷ []
 
--- an ID of document 01's table
+-- an ID of these
 abbrev pub carriedId : ℕ → Bool
 carriedId id = listed id carriedIds
 
@@ -29,13 +29,13 @@ isUnknown (Carried t) = false
 isUnknown NotCarried = false
 isUnknown Unknown = true
 
--- one of table 2's that document 01 does not carry
+-- one of table 2's that is not carried
 abbrev pub isOther : Block → Bool
 isOther (Carried t) = false
 isOther NotCarried = true
 isOther Unknown = false
 
--- one of document 01's table
+-- one that is carried
 abbrev pub isCarried : Block → Bool
 isCarried (Carried t) = true
 isCarried NotCarried = false

@@ -28,12 +28,12 @@ abbrev numberOfBytes : List ℕ → List ℕ → ℕ
 numberOfBytes buffer bytes = cond (tooShort buffer) 31 (cond (not (eqb (length bytes % 4) 0)) 9 (loaded (wordsOf bytes) .number))
 
 words-first : (buffer words : List ℕ) → WordsPage buffer words (numberOfWords buffer words)
-words-first buffer words = first-or-is (beforeWords buffer) (tooShort buffer ∷ []) (Tells words) (loaded words .number) (also (by-lt (length buffer) 11456) tt) (tells words)
+words-first buffer words = first-or-is (beforeWords buffer) (tooShort buffer ∷ []) (Tells words) (loaded words .number) (also (by-lt (length buffer) 11520) tt) (tells words)
 
 bytes-first : (buffer bytes : List ℕ) → BytesPage buffer bytes (numberOfBytes buffer bytes)
 bytes-first buffer bytes =
     first-or-is (beforeBytes buffer bytes) (tooShort buffer ∷ not (eqb (length bytes % 4) 0) ∷ []) (Tells (wordsOf bytes)) (loaded (wordsOf bytes) .number)
-    (also (by-lt (length buffer) 11456) (also (by-not _ (by-eq (length bytes % 4) 0)) tt)) (tells (wordsOf bytes))
+    (also (by-lt (length buffer) 11520) (also (by-not _ (by-eq (length bytes % 4) 0)) tt)) (tells (wordsOf bytes))
 
 words-same : (buffer words : List ℕ) (m n : ℕ) → WordsPage buffer words m → WordsPage buffer words n → m ≡ n
 words-same buffer words = same-first-or (beforeWords buffer) (Tells words) (λ m n. same-told)

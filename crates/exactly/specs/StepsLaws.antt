@@ -94,7 +94,7 @@ is-enforced image port frame =
 -- each clause of the page has its test
 pub decided : (buffer g : List ℕ) (port time : ℕ) (frame : List ℕ) → Decided (framePage buffer g port time frame) (stepTests buffer g port time frame)
 decided buffer g port time frame =
-    also (by-lt (length buffer) 11456)
+    also (by-lt (length buffer) 11520)
     (also (is-not-loaded image)
     (also (is-out-of-range image g)
     (also (by-lt 4 port)

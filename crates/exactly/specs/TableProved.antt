@@ -13,7 +13,7 @@ use Rattle.image.specs.Rows.{rowOf, room}
 use Rattle.image.specs.Blocks.{blockOf}
 use Rattle.image.specs.Layout.{imageIn, entryOf}
 use Rattle.image.specs.declared.tables.Table.{Table}
-use Rattle.image.specs.declared.tables.Table.the-variants.{AddressLookup, Policing, VlanLookup, Forwarding, MacConfiguration, LookupParameters, ForwardingParameters, GeneralParameters, XmiiModeParameters}
+use Rattle.image.specs.declared.tables.Table.the-variants.{AddressLookup, Policing, VlanLookup, Forwarding, MacConfiguration, LookupParameters, ForwardingParameters, GeneralParameters, XmiiModeParameters, Retagging}
 use Rattle.image.specs.declared.tables.Block.{Block}
 use Rattle.image.specs.declared.tables.Block.the-variants.{Carried}
 use Rattle.fields.specs.Fields.{partSpc}
@@ -107,6 +107,7 @@ fits p e0 e1 b end =
     within ForwardingParameters = zero-le
     within GeneralParameters = zero-le
     within XmiiModeParameters = zero-le
+    within Retagging = zero-le
 
 -- ---- (f) and (g)
 

@@ -4,12 +4,13 @@
 // before is never printed, nor is one behind it.
 ghost use Rattle.image.specs.Layout.{Held};
 ghost use Rattle.image.specs.Sound.{Bounded};
-ghost use Rattle.image.specs.declared.tables.Table.the-variants.{AddressLookup, Policing, VlanLookup, Forwarding, MacConfiguration, ForwardingParameters};
+ghost use Rattle.image.specs.declared.tables.Table.the-variants.{AddressLookup, Policing, VlanLookup, Forwarding, MacConfiguration, ForwardingParameters, Retagging};
 use fields::address;
 use fields::forwarding;
 use fields::mac;
 use fields::parameters;
 use fields::policing;
+use fields::retagging;
 use fields::vlan;
 use image::IMAGE_WORDS;
 use image::count;
@@ -108,6 +109,15 @@ fn print_spaces(image: &[u32])
     }
 }
 
+fn print_retagging(image: &[u32], i: usize)
+    requires { ⌜ Held Retagging i (now image) ⌝ }
+{
+    begin(b'1', b'2', i);
+    print(retagging::ing_port(image, i));
+    print(retagging::vlan_ing(image, i));
+    print(retagging::vlan_egr(image, i));
+}
+
 // Entry i of a table; 11 and 4E have no field in use.
 fn print_entry(image: &[u32], table: Table, i: usize)
     requires { ⌜ Held table i (now image) ⌝ }
@@ -125,6 +135,7 @@ fn print_entry(image: &[u32], table: Table, i: usize)
         Table::ForwardingParameters => print_spaces(image),
         Table::GeneralParameters => begin(b'1', b'1', i),
         Table::XmiiModeParameters => begin(b'4', b'E', i),
+        Table::Retagging => print_retagging(image, i),
     }
 }
 

@@ -1,4 +1,4 @@
--- Which refusal an answer is: some of document 01's numbers leave the image zero, and some leave everything as found.
+-- Which refusal an answer is: some numbers leave the image zero, and some leave everything as found.
 use mathlib.Core.Bool.{Bool, true, false, cond}
 use mathlib.Core.List.{List, [], _∷_}
 use Prim.Native.Nat.{ℕ}
@@ -19,7 +19,7 @@ RefusedWith ns (Refused n) = OneOf n ns
 
 -- "Refusals 1 to 8, 10 and of a loading rule leave the image zero"
 abbrev pub leavesZero : ℕ → Bool
-leavesZero n = cond (ltb n 9) (ltb 0 n) (cond (eqb n 10) true (cond (ltb n 20) false (ltb n 26)))
+leavesZero n = cond (ltb n 9) (ltb 0 n) (cond (eqb n 10) true (cond (ltb n 20) false (cond (ltb n 26) true (eqb n 28))))
 
 -- "9, 30, 31 and 32 leave everything as found"
 abbrev pub leaveAsFound : List ℕ

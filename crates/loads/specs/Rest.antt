@@ -1,4 +1,4 @@
--- "The image is the first 11,456 words of a lent buffer, whose rest is never written": by no write and no whole load, whatever its answer.
+-- The image is the first words of "a lent buffer, whose rest is never written": by no write and no whole load, whatever its answer.
 use mathlib.Core.Path.{refl, sym, _∙_, subst}
 use mathlib.Core.List.{List}
 use Prim.Native.Nat.{ℕ, _≤_}

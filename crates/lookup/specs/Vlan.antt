@@ -1,4 +1,4 @@
--- The entry of 07 for a VLAN (document 01, drop 4 and rule 22).
+-- The entry of 07 for a VLAN (document 01, drop 4 and rule 22; document 02, rule 28).
 use mathlib.Core.Bool.{Bool}
 use mathlib.Core.List.{List}
 use Prim.Native.Nat.{ℕ}

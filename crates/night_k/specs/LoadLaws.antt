@@ -36,6 +36,7 @@ not-unmarked image k m =
       k .counts .spaces,
       k .counts .generals,
       k .counts .modes,
+      k .counts .retags,
     )
 
 -- field by field
@@ -54,7 +55,7 @@ whole : (before words image : List ℕ) → tooShort before ≡ false → loaded
 unfolding loadedWords
 whole before words image room e = rw (room, e)
 
--- K's stream: "answer 0 means loaded", and "the first 11,456 words of a lent buffer, whose rest is never written"
+-- K's stream: "answer 0 means loaded", and the first words of "a lent buffer, whose rest is never written"
 pub loads-K : (before : List ℕ) → tooShort before ≡ false
     → loadedWords before K ≡ record { answer = Loaded; buffer = imageOf kTables ++ drop imageWords before }
 loads-K before room = whole before K (imageOf kTables) room k-loaded

@@ -1,11 +1,11 @@
--- Loading rules (document 01, "Numbers for a refused load"), run on the image once the end block has passed, in this order.
+-- Loading rules (document 01, "Numbers for a refused load", and document 02), run on the image once the end block has passed, in this order.
 use mathlib.Core.Bool.{Bool, false, cond}
 use mathlib.Core.List.{List, [], _∷_}
 use Prim.Native.Nat.{ℕ}
 use lib.ListN.{length, getD}
 use Rattle.laws.specs.Scan.{some-below}
 use Rattle.image.specs.Loaded.{incomplete}
-use Rattle.broken.specs.Broken.{vlanTwice, vlanMissing, sharindxBeyond, spaceOver, indexTwice}
+use Rattle.broken.specs.Broken.{vlanTwice, vlanMissing, sharindxBeyond, spaceOver, indexTwice, retagStray}
 
 -- a rule: its number, and whether an image breaks it
 pub record Rule : Type 0 where
@@ -21,6 +21,7 @@ rules =
     ∷ record { number = 23; broken = sharindxBeyond }
     ∷ record { number = 24; broken = spaceOver }
     ∷ record { number = 25; broken = indexTwice }
+    ∷ record { number = 28; broken = retagStray }
     ∷ []
 
 -- the number of the first broken rule of some; 0 where none is

@@ -18,7 +18,7 @@ fn numbered(number: u32, broken: bool) -> u32
 }
 
 // How many rules there are: an arm of `tested` each.
-const RULES: usize = 6;
+const RULES: usize = 7;
 
 // What rule k says of an image that breaks none before it. Each arm returns by itself, so it has one line of the proof by itself.
 fn tested(image: &[u32], again: usize, marks: &[u8; VLANIDS], k: usize) -> u32
@@ -34,6 +34,7 @@ fn tested(image: &[u32], again: usize, marks: &[u8; VLANIDS], k: usize) -> u32
         3 => return numbered(23, broken::sharindx_beyond(image)),
         4 => return numbered(24, broken::space_over(image)),
         5 => return numbered(25, broken::index_twice(image)),
+        6 => return numbered(28, broken::retag_stray(image, marks)),
         _ => 0,
     }
 }

@@ -32,7 +32,7 @@ fn count_bytes(fd: i32) -> Counted {
     Counted::PastBudget
 }
 
-// More bytes than a stream can need before it is answered: 32,182 words.
+// More bytes than a stream can need before it is answered: 32,374 words.
 const MOST: usize = 131072;
 
 // Made by a call: where an array is made, the prover counts its zeros one by one.
