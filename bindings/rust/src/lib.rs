@@ -26,13 +26,13 @@ mod load;
 mod numbers;
 pub mod raw;
 
-pub use frames::{Counts, Ledger, Sent, Tile, Verdict};
+pub use frames::{Counts, Judged, Ledger, Replicas, Sent, Tile, Verdict};
 pub use list::{Record, Records};
 pub use load::{load_bytes, load_words, Answer, Load};
 pub use numbers::{DropCause, Refusal};
 
 /// Words of an image; a shorter buffer is refused with 31.
-pub const IMAGE_WORDS: usize = 11_456;
+pub const IMAGE_WORDS: usize = 11_520;
 
 /// The most words of one write; a longer one is refused with 32.
 pub const WRITE_WORDS: usize = 64;
@@ -42,3 +42,6 @@ pub const LIST_BYTES: usize = 16_384;
 
 /// Ports of the switch.
 pub const PORTS: usize = 5;
+
+/// The most replicas of one frame: the most entries of block 12.
+pub const REPLICAS: usize = 32;
