@@ -1,7 +1,7 @@
 //! Both sides of each boundary that only calls can show: 30, 31, 32, 38, 39 and edited ledgers.
 
 use reference::image::{count_place, IMAGE_WORDS, MARK};
-use reference::judge::{judge, release, FrameAnswer, ReleaseAnswer};
+use reference::judge::{judge, release, ReleaseAnswer, Verdict};
 use reference::k;
 use reference::ledger::{fresh_ledger, Ledger, PortCounts, LAST_TIME};
 use reference::load::{load_bytes, load_words, write, LoadAnswer, LoadState, Phase};
@@ -57,11 +57,13 @@ fn fresh(image: &[u32]) -> Ledger {
     fresh_ledger(image).unwrap_or(reference::ledger::no_ledger())
 }
 
-/// The refusal number of a frame's answer, 0 for a verdict; and the ledger must be as found.
+/// The refusal number of a frame's answer, 0 for a verdict; a refused one has no replicas and leaves
+/// the ledger as found.
 fn frame_number(image: &[u32], ledger: &Ledger, port: u32, time: u64, frame: &[u8]) -> u32 {
-    match judge(image, *ledger, port, time, frame) {
-        (FrameAnswer::Refused(number), after) if after == *ledger => number,
-        (FrameAnswer::Refused(_), _) => 999,
+    let (judged, after) = judge(image, *ledger, port, time, frame);
+    match judged.verdict {
+        Verdict::Refused(number) if judged.replicas.is_empty() && after == *ledger => number,
+        Verdict::Refused(_) => 999,
         _ => 0,
     }
 }
@@ -383,11 +385,11 @@ fn most_frames(rng: &mut Rng, tally: &mut Tally) {
 /// The verdict on one frame to A on port 0, as a drop number, 0 where sent.
 fn drop_number(tally: &mut Tally, image: &[u32], ledger: &Ledger, bytes: usize) -> (u32, Ledger) {
     let frame = Frame::to(A).length(bytes).bytes();
-    let (answer, after) = judge(image, *ledger, 0, ledger.last_time, &frame);
-    let number = match answer {
-        FrameAnswer::Drop(number) => number,
-        FrameAnswer::Sent(_) => 0,
-        FrameAnswer::Refused(number) => 1000 + number,
+    let (judged, after) = judge(image, *ledger, 0, ledger.last_time, &frame);
+    let number = match judged.verdict {
+        Verdict::Drop(number) => number,
+        Verdict::Sent(_) => 0,
+        Verdict::Refused(number) => 1000 + number,
     };
     if (1..=11).contains(&number) {
         tally.drop(number);
