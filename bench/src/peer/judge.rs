@@ -1,6 +1,6 @@
-//! One frame and a release, the ledger lent by `&mut`.
+//! One frame with its replicas, and a release, the ledger lent by `&mut`.
 
-use crate::flat::{FlatLedger, FlatVerdict};
+use crate::flat::{FlatJudged, FlatLedger, FlatVerdict, Replicas};
 
 use super::image::*;
 use super::ledger::{most_credit, out_of_range, CREDIT_A_BYTE, LAST_TIME};
@@ -15,7 +15,12 @@ fn verdict(kind: u32, number: u32) -> FlatVerdict {
     FlatVerdict { kind, number, ports: 0, vlan: 0, priority: 0, tags: 0, queues: [0; 5] }
 }
 
-/// Refusals 31, 30, 39, 33, 34, 35, 38; then the first drop, or where the frame is sent.
+#[inline(always)]
+fn refused(number: u32) -> FlatJudged {
+    FlatJudged { verdict: verdict(0, number), replicas: 0 }
+}
+
+/// Refusals 31, 30, 39, 33, 34, 35, 38; then the first drop, or where the frame is sent, and the same of its replicas.
 #[inline(never)]
 pub fn judge(
     image: &[u32],
@@ -23,41 +28,43 @@ pub fn judge(
     port: usize,
     time: u64,
     frame: &[u8],
-) -> FlatVerdict {
+    replicas: &mut Replicas,
+) -> FlatJudged {
     let Some(image) = image_of(image) else {
-        return verdict(0, 31);
+        return refused(31);
     };
     if !is_loaded(image) {
-        return verdict(0, 30);
+        return refused(30);
     }
     if out_of_range(image, ledger) {
-        return verdict(0, 39);
+        return refused(39);
     }
     if port > 4 {
-        return verdict(0, 33);
+        return refused(33);
     }
     if time < ledger.last || time > LAST_TIME {
-        return verdict(0, 34);
+        return refused(34);
     }
     if frame.len() > MOST_BYTES {
-        return verdict(0, 35);
+        return refused(35);
     }
     if ledger.frames[port] >= MOST_FRAMES {
-        return verdict(0, 38);
+        return refused(38);
     }
-    let answer = steps(image, ledger, port, time, frame);
+    let (answer, many) = steps(image, ledger, port, time, frame, replicas);
     let octets = frame.len() as u64 + 4;
     ledger.last = time;
     ledger.frames[port] += 1;
     ledger.octets[port] += octets;
-    match answer {
+    let verdict = match answer {
         Ok(sent) => sent,
         Err(drop) => {
             ledger.drops[port] += 1;
             ledger.dropped[port] += octets;
             verdict(1, drop)
         }
-    }
+    };
+    FlatJudged { verdict, replicas: many }
 }
 
 /// Six bytes as a number, the first highest.
@@ -67,12 +74,12 @@ fn address(bytes: &[u8; 6]) -> u64 {
     u64::from_be_bytes([0, 0, a, b, c, d, e, f])
 }
 
-/// What steps 7 to 11 need of a frame that steps 1 to 6 let by.
+/// What steps 7 to 11 need of a frame that steps 1 to 6 let by, or of its replica.
+#[derive(Clone, Copy)]
 struct Passed<'a> {
     octets: u64,
     priority: usize,
     vlan: u32,
-    /// VMEMB_PORT, VLAN_BC and TAG_PORT of the VLAN, each in the low five bits.
     members: u32,
     broadcasts: u32,
     tags: u32,
@@ -81,6 +88,7 @@ struct Passed<'a> {
     shared_learn: bool,
 }
 
+/// A frame, and how many replicas it has; their verdicts stand in the first places.
 #[inline(always)]
 fn steps(
     image: &Image,
@@ -88,10 +96,75 @@ fn steps(
     port: usize,
     time: u64,
     frame: &[u8],
+    replicas: &mut Replicas,
+) -> (Result<FlatVerdict, u32>, u64) {
+    let passed = match receive(image, port, frame) {
+        Ok(passed) => passed,
+        Err(drop) => return (Err(drop), 0),
+    };
+    let answer = go_on(image, ledger, port, time, &passed);
+    // Without entries in 12 this is the one thing that a frame pays for replicas.
+    let many = match count(image, RETAGGING) {
+        0 => 0,
+        _ => replicate(image, ledger, port, time, passed, replicas),
+    };
+    (answer, many)
+}
+
+/// Drops 7 to 11, or where it is sent.
+#[inline(always)]
+fn go_on(
+    image: &Image,
+    ledger: &mut FlatLedger,
+    port: usize,
+    time: u64,
+    passed: &Passed,
 ) -> Result<FlatVerdict, u32> {
-    let passed = receive(image, port, frame)?;
-    let entry = police(image, ledger, port, time, &passed)?;
-    send(image, ledger, port, entry, &passed)
+    let entry = police(image, ledger, port, time, passed)?;
+    send(image, ledger, port, entry, passed)
+}
+
+/// A replica for each entry of 12 that has the VLAN and the port, on what the one before left. By value, so that a frame without one
+/// is not put into memory.
+#[inline(never)]
+fn replicate(
+    image: &Image,
+    ledger: &mut FlatLedger,
+    port: usize,
+    time: u64,
+    passed: Passed,
+    replicas: &mut Replicas,
+) -> u64 {
+    let entries = entries::<2>(image, RETAGGING).iter();
+    let matching =
+        entries.filter(|entry| vlan_ing(entry) == passed.vlan && ing_port_has(entry, port));
+    let mut many = 0;
+    for (place, entry) in replicas.iter_mut().zip(matching) {
+        let replica = on_vlan(image, vlan_egr(entry), &passed);
+        *place = match replica.and_then(|replica| go_on(image, ledger, port, time, &replica)) {
+            Ok(sent) => sent,
+            Err(drop) => verdict(1, drop),
+        };
+        many += 1;
+    }
+    many
+}
+
+/// The frame on another VLAN; drop 4.
+#[inline(always)]
+fn on_vlan<'a>(image: &Image, vlan: u32, passed: &Passed<'a>) -> Result<Passed<'a>, u32> {
+    let [members, broadcasts, tags] = masks(image, vlan)?;
+    Ok(Passed { vlan, members, broadcasts, tags, ..*passed })
+}
+
+/// VMEMB_PORT, VLAN_BC and TAG_PORT of a VLAN, each in the low five bits; drop 4.
+#[inline(always)]
+fn masks(image: &Image, vlan: u32) -> Result<[u32; 3], u32> {
+    let Some(place) = first_vlan(entries(image, VLANS), vlan) else {
+        return Err(4);
+    };
+    let tags = (vlan_entry(image, place) >> 39) as u32;
+    Ok([tags >> 10, tags >> 5, tags])
 }
 
 /// Drops 1 to 6.
@@ -116,11 +189,7 @@ fn receive<'a>(image: &'a Image, port: usize, frame: &[u8]) -> Result<Passed<'a>
     } else if mac_word & 32 != 0 {
         return Err(3);
     }
-    let Some(place) = first_vlan(entries(image, VLANS), vlan) else {
-        return Err(4);
-    };
-    let tags = (vlan_entry(image, place) >> 39) as u32;
-    let (members, broadcasts) = (tags >> 10, tags >> 5);
+    let [members, broadcasts, tags] = masks(image, vlan)?;
     if tagged && members >> port & 1 == 0 {
         return Err(5);
     }
