@@ -7,6 +7,7 @@ mod flips;
 mod frames;
 mod lists;
 mod pair;
+mod replicas;
 mod six_numbers;
 mod states;
 mod streams;
@@ -117,6 +118,7 @@ fn night(seed: u64, rounds: u64, tally: &mut Tally) {
     named(&mut rng, tally);
     cut(&mut rng, tally);
     lent_numbers(&mut rng, tally);
+    replicas::cases(&mut rng, tally);
     turned_over(&mut rng, tally);
     for round in 0..rounds {
         generated(&mut rng, tally, round);
