@@ -80,7 +80,8 @@ pub fn all() -> Result<Agreed, String> {
         let profile = match number % 10 {
             0..=3 => Profile::Near,
             4..=6 => Profile::Valid,
-            7..=8 => Profile::Breaks(RULES[number / 5 % RULES.len()]),
+            // Two in ten, each the next rule's.
+            last @ 7..=8 => Profile::Breaks(RULES[(number / 10 * 2 + last - 7) % RULES.len()]),
             _ => Profile::Wild,
         };
         let config = random_config(&mut rng, profile);

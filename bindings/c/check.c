@@ -373,7 +373,7 @@ static void one_replica(void)
     judged = judge(image, TAILBOW_IMAGE_WORDS, &ledger, 0, 10, broadcast, 60);
     HOLDS(sent_to(&judged.verdict, 30, 1, 0) && replicas_are(&judged, 1) && sent_to(replica(0), 30, 2, 30));
     HOLDS(ledger.units[0] == 1 && ledger.frames[0] == 1 && ledger.octets[0] == 64 && ledger.last == 10);
-    HOLDS(ledger.credit[40] == UINT64_C(65535 - 2 * 64) * 8000000 && ledger.since[40] == 10);
+    HOLDS(ledger.credit[40] == (UINT64_C(65535) - 2 * 64) * 8000000 && ledger.since[40] == 10);
     judged = judge(image, TAILBOW_IMAGE_WORDS, &ledger, 0, 20, broadcast, 60);
     HOLDS(sent_to(&judged.verdict, 30, 1, 0) && replicas_are(&judged, 1) && dropped_with(replica(0), TAILBOW_DROP_PARTITION));
     HOLDS(ledger.units[0] == 0 && ledger.frames[0] == 2 && ledger.drops[0] == 0);
