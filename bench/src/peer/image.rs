@@ -182,12 +182,6 @@ pub fn vlan_egr(entry: &[u32; 2]) -> u32 {
     entry[0] >> 30 | (entry[1] & 0x3FF) << 2
 }
 
-/// ING_PORT 58:54 of 12 has the port.
-#[inline(always)]
-pub fn ing_port_has(entry: &[u32; 2], port: usize) -> bool {
-    entry[1] >> (22 + port) & 1 == 1
-}
-
 /// PART_SPC(i): ten bits up from 13 + 10i.
 #[inline(always)]
 pub fn part_spc(image: &Image) -> [u64; 8] {

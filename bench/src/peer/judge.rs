@@ -4,7 +4,7 @@ use crate::flat::{FlatJudged, FlatLedger, FlatVerdict, Replicas};
 
 use super::image::*;
 use super::ledger::{most_credit, out_of_range, CREDIT_A_BYTE, LAST_TIME};
-use super::search::{each_match, first_vlan, Key};
+use super::search::{each_match, first_vlan, Key, Retag};
 
 const BROADCAST: u64 = 0xFFFF_FFFF_FFFF;
 const MOST_BYTES: usize = 4_096;
@@ -51,12 +51,13 @@ pub fn judge(
     if ledger.frames[port] >= MOST_FRAMES {
         return refused(38);
     }
-    let (answer, many) = steps(image, ledger, port, time, frame, replicas);
     let octets = frame.len() as u64 + 4;
     ledger.last = time;
     ledger.frames[port] += 1;
     ledger.octets[port] += octets;
-    let verdict = match answer {
+    let passed = receive(image, port, frame);
+    let past_6 = passed.as_ref().ok().map(|passed| (passed.vlan, passed.priority));
+    let verdict = match passed.and_then(|passed| go_on(image, ledger, port, time, &passed)) {
         Ok(sent) => sent,
         Err(drop) => {
             ledger.drops[port] += 1;
@@ -64,7 +65,14 @@ pub fn judge(
             verdict(1, drop)
         }
     };
-    FlatJudged { verdict, replicas: many }
+    let mut judged = FlatJudged { verdict, replicas: 0 };
+    if let Some((vlan, priority)) = past_6 {
+        if Retag::new(vlan, port).some(entries(image, RETAGGING)) {
+            judged.replicas =
+                replicate(image, ledger, port, time, frame, (vlan, priority), replicas);
+        }
+    }
+    judged
 }
 
 /// Six bytes as a number, the first highest.
@@ -75,7 +83,6 @@ fn address(bytes: &[u8; 6]) -> u64 {
 }
 
 /// What steps 7 to 11 need of a frame that steps 1 to 6 let by, or of its replica.
-#[derive(Clone, Copy)]
 struct Passed<'a> {
     octets: u64,
     priority: usize,
@@ -86,29 +93,6 @@ struct Passed<'a> {
     destination: u64,
     addresses: &'a [[u32; 3]],
     shared_learn: bool,
-}
-
-/// A frame, and how many replicas it has; their verdicts stand in the first places.
-#[inline(always)]
-fn steps(
-    image: &Image,
-    ledger: &mut FlatLedger,
-    port: usize,
-    time: u64,
-    frame: &[u8],
-    replicas: &mut Replicas,
-) -> (Result<FlatVerdict, u32>, u64) {
-    let passed = match receive(image, port, frame) {
-        Ok(passed) => passed,
-        Err(drop) => return (Err(drop), 0),
-    };
-    let answer = go_on(image, ledger, port, time, &passed);
-    // Without entries in 12 this is the one thing that a frame pays for replicas.
-    let many = match count(image, RETAGGING) {
-        0 => 0,
-        _ => replicate(image, ledger, port, time, passed, replicas),
-    };
-    (answer, many)
 }
 
 /// Drops 7 to 11, or where it is sent.
@@ -124,23 +108,27 @@ fn go_on(
     send(image, ledger, port, entry, passed)
 }
 
-/// A replica for each entry of 12 that has the VLAN and the port, on what the one before left. By value, so that a frame without one
-/// is not put into memory.
+/// A replica for each entry that matches, on what the one before left. It is given the frame's bytes, so that a frame without replicas
+/// keeps what it has come to in registers.
 #[inline(never)]
 fn replicate(
     image: &Image,
     ledger: &mut FlatLedger,
     port: usize,
     time: u64,
-    passed: Passed,
+    frame: &[u8],
+    (vlan, priority): (u32, usize),
     replicas: &mut Replicas,
 ) -> u64 {
-    let entries = entries::<2>(image, RETAGGING).iter();
-    let matching =
-        entries.filter(|entry| vlan_ing(entry) == passed.vlan && ing_port_has(entry, port));
+    let Some(destination) = frame.first_chunk() else {
+        return 0;
+    };
+    let (destination, octets) = (address(destination), frame.len() as u64 + 4);
+    let retag = Retag::new(vlan, port);
     let mut many = 0;
+    let matching = entries(image, RETAGGING).iter().filter(|entry| retag.is(entry));
     for (place, entry) in replicas.iter_mut().zip(matching) {
-        let replica = on_vlan(image, vlan_egr(entry), &passed);
+        let replica = on_vlan(image, vlan_egr(entry), octets, priority, destination);
         *place = match replica.and_then(|replica| go_on(image, ledger, port, time, &replica)) {
             Ok(sent) => sent,
             Err(drop) => verdict(1, drop),
@@ -150,11 +138,34 @@ fn replicate(
     many
 }
 
-/// The frame on another VLAN; drop 4.
+/// What steps 7 to 11 need on this VLAN; drop 4.
 #[inline(always)]
-fn on_vlan<'a>(image: &Image, vlan: u32, passed: &Passed<'a>) -> Result<Passed<'a>, u32> {
+fn on_vlan(
+    image: &Image,
+    vlan: u32,
+    octets: u64,
+    priority: usize,
+    destination: u64,
+) -> Result<Passed<'_>, u32> {
     let [members, broadcasts, tags] = masks(image, vlan)?;
-    Ok(Passed { vlan, members, broadcasts, tags, ..*passed })
+    let (addresses, shared_learn) = (entries(image, ADDRESSES), shared_learn(image));
+    Ok(Passed {
+        octets,
+        priority,
+        vlan,
+        members,
+        broadcasts,
+        tags,
+        destination,
+        addresses,
+        shared_learn,
+    })
+}
+
+/// SHARED_LEARN of 0D; absent means clear.
+#[inline(always)]
+fn shared_learn(image: &Image) -> bool {
+    count(image, LOOKUP) == 1 && image[BASE[LOOKUP]] >> 5 & 1 == 1
 }
 
 /// VMEMB_PORT, VLAN_BC and TAG_PORT of a VLAN, each in the low five bits; drop 4.
@@ -194,7 +205,7 @@ fn receive<'a>(image: &'a Image, port: usize, frame: &[u8]) -> Result<Passed<'a>
         return Err(5);
     }
     let addresses = entries::<3>(image, ADDRESSES);
-    let shared_learn = count(image, LOOKUP) == 1 && image[BASE[LOOKUP]] >> 5 & 1 == 1;
+    let shared_learn = shared_learn(image);
     let source = address(head[6..].first_chunk().unwrap());
     if enforced_elsewhere(addresses, Key::new(source, vlan, shared_learn), port) {
         return Err(6);
