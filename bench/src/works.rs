@@ -83,12 +83,13 @@ pub fn lists(sizes: Sizes, place: Place) -> Lists {
         lists.put(vlan_lookup::TAG_PORT, number, 31);
     }
     put_addresses(&mut rng, &mut lists, sizes.addresses, place);
+    // The replicas' VLANs are the last ones beside the frame's.
     vlans.retain(|&vlan| vlan != VLAN);
-    for number in 0..sizes.retagging {
+    for (number, &vlan) in vlans.iter().rev().take(sizes.retagging).enumerate() {
         lists.push_zero(Table::Retagging);
         lists.put(retagging::ING_PORT, number, 31);
         lists.put(retagging::VLAN_ING, number, vlans[0]);
-        lists.put(retagging::VLAN_EGR, number, vlans[number]);
+        lists.put(retagging::VLAN_EGR, number, vlan);
     }
     lists
 }
