@@ -1,11 +1,12 @@
 //! `cases check`: runs everything through the reference and says what was hit and what failed.
 
 use crate::case::Case;
+use crate::named_calls::{self, CallCase};
 use crate::rng::Rng;
 use crate::rules::RULES;
 use crate::tally::Tally;
-use crate::{boundaries, boundary_calls, generate, named_calls, named_frames, named_program};
-use crate::{fixed, named_streams, properties};
+use crate::{boundaries, boundary_calls, fixed, generate, named_frames, named_program};
+use crate::{named_replica_calls, named_replicas, named_retagging, named_streams, properties};
 
 /// Named cases, fixed damage, and so many seeded rounds; true where nothing is missing or wrong.
 pub fn check(seed: u64, rounds: usize) -> bool {
@@ -14,14 +15,11 @@ pub fn check(seed: u64, rounds: usize) -> bool {
     let named = named();
     named.iter().for_each(|case| tally.run(case));
     fixed::cases().iter().for_each(|case| tally.run(case));
-    for (name, clause, run) in named_calls::CASES {
+    let calls = named_of_calls();
+    for (name, clause, run) in &calls {
         tally.result(run().map_err(|failure| format!("{name} ({clause}): {failure}")));
     }
-    println!(
-        "{} named cases, {} of them calls",
-        named.len() + named_calls::CASES.len(),
-        named_calls::CASES.len()
-    );
+    println!("{} named cases, {} of them calls", named.len() + calls.len(), calls.len());
     let mut rng = Rng::new(seed);
     for round in 0..rounds {
         properties::run(&mut rng, &mut tally);
@@ -40,7 +38,14 @@ pub fn named() -> Vec<Case> {
     let mut cases = named_program::cases();
     cases.extend(named_streams::cases());
     cases.extend(named_frames::cases());
+    cases.extend(named_retagging::cases());
+    cases.extend(named_replicas::cases());
     cases
+}
+
+/// Every named case that is calls.
+fn named_of_calls() -> Vec<CallCase> {
+    [&named_calls::CASES[..], named_replica_calls::CASES].concat()
 }
 
 /// A generated stream and list: any answer, the same from both programs.
@@ -81,7 +86,7 @@ mod tests {
                 panic!("{failure}");
             }
         }
-        for (name, clause, run) in named_calls::CASES {
+        for (name, clause, run) in named_of_calls() {
             assert_eq!(run(), Ok(()), "{name} ({clause})");
         }
     }

@@ -1,4 +1,4 @@
-//! Cases on which two renderings of document 01 are compared: named, at boundaries, and seeded.
+//! Cases on which two renderings of documents 01 and 02 are compared: named, at boundaries, and seeded.
 //! The generators are a library, so that a test that links another program can use them too.
 
 pub mod boundaries;
@@ -18,6 +18,9 @@ pub mod generate;
 mod named_calls;
 mod named_frames;
 mod named_program;
+mod named_replica_calls;
+mod named_replicas;
+pub mod named_retagging;
 pub mod named_streams;
 mod properties;
 pub mod rng;
