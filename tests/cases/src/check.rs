@@ -77,7 +77,7 @@ fn finish(tally: Tally) -> bool {
 mod tests {
     use super::*;
     use crate::rules::refusals;
-    use crate::tally::boundaries;
+    use crate::tally::{boundaries, HOW_MANY, REPLICA_DROPS};
 
     #[test]
     fn named_cases_hold() {
@@ -93,8 +93,19 @@ mod tests {
 
     #[test]
     fn what_is_not_hit_is_told() {
-        // Every refusal, 11 drops, two sides of each boundary.
+        // Every refusal, 11 drops, two sides of each boundary; of replicas the drops, the sent and how many.
         let missed = Tally::default().missed();
-        assert_eq!(missed.len(), refusals().len() + 11 + 2 * boundaries().len());
+        let of_replicas = REPLICA_DROPS.len() + 1 + HOW_MANY.len();
+        let expected = refusals().len() + 11 + 2 * boundaries().len() + of_replicas;
+        assert_eq!(missed.len(), expected);
+    }
+
+    /// Without the named cases: what is generated has replicas of every kind that a load allows.
+    #[test]
+    fn generated_lists_have_replicas() {
+        let mut rng = Rng::new(12);
+        let mut tally = Tally::default();
+        (0..200).for_each(|number| tally.run(&generated(&mut rng, number)));
+        assert_eq!(tally.missed_replicas(&REPLICA_DROPS[1..]), [""; 0]);
     }
 }

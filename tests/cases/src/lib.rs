@@ -5,6 +5,7 @@ pub mod boundaries;
 mod boundary_calls;
 mod boundary_frames;
 mod boundary_records;
+mod boundary_replicas;
 mod boundary_streams;
 pub mod build;
 pub mod case;
