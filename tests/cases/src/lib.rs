@@ -27,3 +27,5 @@ mod properties;
 pub mod rng;
 pub mod rules;
 mod tally;
+#[cfg(test)]
+mod wrong_replicas;

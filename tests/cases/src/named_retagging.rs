@@ -7,14 +7,17 @@ use reference::tables::{forwarding_parameters, retagging, Table};
 
 use crate::build::{open, with, with_address, with_retagging, with_vlan, Address, Frame, List, A};
 use crate::case::Case;
+use crate::damage::flip;
 
 const LENGTHS: &str =
     "document 02, request 2: two-word entries, at most 32; 4 no longer covers ID 12";
+const FRAMING: &str = "document 01, framing in order 8, else 2, 3, 4, 5, 6, 7";
 const BLOCKS: &str = "document 01, The stream: a table in several blocks; any order";
 const RULE_28: &str = "document 02, request 2: 28, after 25, an ingress or egress VLAN not in 07";
 
 pub fn cases() -> Vec<Case> {
     let mut cases = headers();
+    cases.extend(checksums());
     cases.extend(lengths());
     cases.extend(pieces());
     cases.extend(rule_28());
@@ -45,6 +48,23 @@ fn headers() -> Vec<Case> {
         told(67, 5),
         told(0xFF_FFFE, 6),
         told(0xFF_FFFF, 5),
+    ]
+}
+
+/// Word 0 and one block of 12 with one entry: words 1 to 3 header, 4 and 5 data, 6 its checksum.
+fn checksums() -> Vec<Case> {
+    let mut words = vec![DEVICE_ID];
+    words.extend(Block::plain(0x12, vec![0x8000_0000, 0x0040_0400]).words());
+    let case = |name, words: &[u32], number| Case::of_words(name, FRAMING, words).refused(number);
+    vec![
+        case("12_whole_block", &words, 10),
+        case("12_without_data", &words[..4], 10),
+        case("12_without_its_second_word", &words[..5], 10),
+        case("12_without_data_checksum", &words[..6], 10),
+        case("12_header_checksum_wrong", &flip(&words, 3, 0), 2),
+        case("12_data_checksum_wrong", &flip(&words, 6, 31), 7),
+        case("12_vlan_egr_flipped", &flip(&words, 4, 31), 7),
+        case("12_vlan_ing_flipped", &flip(&words, 5, 10), 7),
     ]
 }
 
