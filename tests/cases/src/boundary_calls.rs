@@ -1,4 +1,4 @@
-//! Both sides of each boundary that only calls can show: 30, 31, 32, 38, 39 and edited ledgers.
+//! Both sides of each boundary that only calls can show: 30, 31, 32, 38, 39, edited ledgers and images.
 
 use reference::image::{count_place, IMAGE_WORDS, MARK};
 use reference::judge::{judge, release, ReleaseAnswer, Verdict};
@@ -6,10 +6,10 @@ use reference::k;
 use reference::ledger::{fresh_ledger, Ledger, PortCounts, LAST_TIME};
 use reference::load::{load_bytes, load_words, write, LoadAnswer, LoadState, Phase};
 use reference::stream::{plain_stream, Lists};
-use reference::tables::{policing, Table, ROWS};
+use reference::tables::{policing, vlan_lookup, Table, ROWS};
 use reference::tile::{tile, TileAnswer};
 
-use crate::build::{open, Frame, A};
+use crate::build::{open, with_retagging, with_vlan, Frame, A};
 use crate::case::Side;
 use crate::edit::put_value;
 use crate::generate::{random_config, Profile};
@@ -29,6 +29,7 @@ pub fn run(rng: &mut Rng, tally: &mut Tally) {
     most_frames(rng, tally);
     credits(rng, tally);
     shared_entries(rng, tally);
+    replicas_vlans(rng, tally);
 }
 
 /// Counts a side and its refusal where it came out as it must.
@@ -429,5 +430,27 @@ fn shared_entries(rng: &mut Rng, tally: &mut Tally) {
         let ledger = fresh(&image);
         let (told, _) = drop_number(tally, &image, &ledger, 60);
         expect(tally, "drop 7 SHARINDX", side, told, number);
+    }
+}
+
+/// A replica's drop 4, in an edited image: 07 has its VLAN, or one that is one bit apart.
+fn replicas_vlans(rng: &mut Rng, tally: &mut Tally) {
+    let vlan = rng.between(2, 4095);
+    let port = rng.below(5) as u32;
+    let lists = with_retagging(with_vlan(open(), vlan, 31, 31, 0), 31, 1, vlan);
+    let near = vlan ^ (1 << rng.below(12));
+    for (told, side) in [(vlan, Side::Passes), (near, Side::Refused)] {
+        let mut image = loaded(&lists);
+        put_value(&mut image, vlan_lookup::VLANID, 1, told);
+        let (judged, after) = judge(&image, fresh(&image), port, 0, &Frame::to(A).bytes());
+        tally.judged(&judged);
+        let sent = matches!(judged.replicas[..], [Verdict::Sent(_)]);
+        let dropped = judged.replicas == [Verdict::Drop(4)];
+        let got = (sent, dropped, after.units[0], after.ports[port as usize].frames);
+        let expected = match side {
+            Side::Passes => (true, false, 98, 1),
+            Side::Refused => (false, true, 99, 1),
+        };
+        expect(tally, "replica drop 4 VLAN", side, got, expected);
     }
 }

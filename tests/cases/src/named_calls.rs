@@ -14,7 +14,7 @@ use reference::tile::{tile, TileAnswer};
 use crate::build::{open, with_address, with_vlan, Address, Frame, A, B, C};
 use crate::edit::put_value;
 
-type CallCase = (&'static str, &'static str, fn() -> Result<(), String>);
+pub type CallCase = (&'static str, &'static str, fn() -> Result<(), String>);
 
 const WRITES: &str = "decisions, Writes and the load state";
 const FRAMES: &str = "decisions, Frames";

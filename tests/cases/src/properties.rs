@@ -147,13 +147,13 @@ fn frames(rng: &mut Rng, tally: &mut Tally, lists: &Lists) -> Result<(), String>
         let length = frame.len() as u128 + 4;
         seen[port][0] += 1;
         seen[port][2] += length;
+        tally.judged(&judged);
         match judged.verdict {
-            Verdict::Drop(number) => {
-                tally.drop(number);
+            Verdict::Drop(_) => {
                 seen[port][1] += 1;
                 seen[port][3] += length;
             }
-            Verdict::Sent(_) => tally.sent += 1,
+            Verdict::Sent(_) => {}
             Verdict::Refused(number) => return Err(format!("refused {number}")),
         }
         what_a_frame_moves(&judged, &ledger, &after)?;
@@ -226,13 +226,9 @@ fn edited_calls(rng: &mut Rng, tally: &mut Tally, lists: &Lists) -> Result<(), S
         let port = rng.below(6) as u32;
         let time = later(rng, ledger.last_time & ((1 << 48) - 1));
         let (judged, after) = judge(&image, ledger, port, time, &random_frame(rng));
-        match judged.verdict {
-            Verdict::Refused(number) => {
-                tally.refusal(number);
-                same("refused frame", after, ledger)?;
-            }
-            Verdict::Drop(number) => tally.drop(number),
-            Verdict::Sent(_) => tally.sent += 1,
+        tally.judged(&judged);
+        if let Verdict::Refused(_) = judged.verdict {
+            same("refused frame", (judged.replicas.len(), after), (0, ledger))?;
         }
         let (answer, after) = release(&image, ledger, rng.below(9) as u32);
         if let ReleaseAnswer::Refused(number) = answer {

@@ -269,6 +269,14 @@ mod tests {
         assert_eq!(ROWS.len(), 10);
     }
 
+    /// The IDs of table 2 that are 4, by hand: 12 is no longer one of them.
+    #[test]
+    fn ids_that_are_not_carried() {
+        let mut ids = IDS_OF_TABLE_2.to_vec();
+        ids.retain(|&id| Table::of_id(id).is_none());
+        assert_eq!(ids, [0x00, 0x01, 0x02, 0x03, 0x04, 0x0A, 0x0B, 0x0C, 0x0F, 0x10]);
+    }
+
     /// A second row of an ID or of a table would never be found.
     #[test]
     fn every_row_is_found_by_its_id_and_by_its_table() {
