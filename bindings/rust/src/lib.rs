@@ -1,8 +1,8 @@
 //! Tailbow judges what a five-port SJA1105TEL switch does with a frame. This crate is a safe interface to its proved entries.
 //!
 //! It takes the static configuration that a bench sends to its switch, works out for each frame whether the switch would send it, where
-//! and with which tag, and gives each port's share of dropped frames. It keeps nothing and zero apart: a configuration that did
-//! not load is not judged, and a port with no frames shows no share.
+//! and with which tag, and the same for the frame's replicas, and gives each port's share of dropped frames. It keeps nothing and zero
+//! apart: a configuration that did not load is not judged, and a port with no frames shows no share.
 //!
 //! The entries are Rattle, proved against their promises, and linked as the archive `libtailbow_c.a`. `rt staticlib tailbow_c` writes
 //! it to the repository's `target/staticlib`; the variable `TAILBOW_STATICLIB` names another folder. What is proved ends at the

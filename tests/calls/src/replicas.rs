@@ -23,7 +23,7 @@ const MARK: usize = 11_504;
 
 type Case = fn(&mut Rng, &mut Tally, &str);
 
-const CASES: [(&str, Case); 9] = [
+const CASES: [(&str, Case); 10] = [
     ("each_number_of_replicas", each_number_of_replicas),
     ("entries_alike_and_in_table_order", entries_alike_and_in_table_order),
     ("a_refused_frame_has_none", a_refused_frame_has_none),
@@ -32,6 +32,7 @@ const CASES: [(&str, Case); 9] = [
     ("what_runs_out_between_replicas", what_runs_out_between_replicas),
     ("each_bit_of_an_entry", each_bit_of_an_entry),
     ("the_count_of_12", the_count_of_12),
+    ("vlans_of_an_edited_image", vlans_of_an_edited_image),
     ("a_stream_with_12", a_stream_with_12),
 ];
 
@@ -285,6 +286,20 @@ fn the_count_of_12(rng: &mut Rng, tally: &mut Tally, name: &str) {
         pair.put_buffer(&counted);
         let answer = pair.write(tally, name, &[0]);
         tally.result(same(name, answer, MORE));
+    }
+}
+
+/// What no load gives: the replica's VLAN twice in 07, where the first counts, and not at all.
+fn vlans_of_an_edited_image(rng: &mut Rng, tally: &mut Tally, name: &str) {
+    let lists = with_vlan(retags(&[TO_2]), 3, 31, 2, 0);
+    let sent_to_1 = FlatVerdict { ports: 2, tags: 0, ..sent(2) };
+    // Entry 1 of 07 is VLAN 2's, entry 2 VLAN 3's.
+    for (vlans, replica) in
+        [([2, 3], sent(2)), ([2, 2], sent(2)), ([3, 2], sent_to_1), ([3, 3], dropped(4))]
+    {
+        let changes = [(vlan_lookup::VLANID, 1, vlans[0]), (vlan_lookup::VLANID, 2, vlans[1])];
+        let image = of_lists(&with(lists.clone(), &changes));
+        held_fresh(rng, tally, name, &image, (0, 10, &broadcast()), &[sent(1), replica]);
     }
 }
 
