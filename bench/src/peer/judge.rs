@@ -120,6 +120,7 @@ fn replicate(
     (vlan, priority): (u32, usize),
     replicas: &mut Replicas,
 ) -> u64 {
+    // Past drop 1 it has them.
     let Some(destination) = frame.first_chunk() else {
         return 0;
     };

@@ -42,7 +42,7 @@ fn judge(
     frame: &[u8],
 ) -> Result<Verdict, Refusal> {
     let judged = ledger.judge(image, port, time, frame)?;
-    assert_eq!(judged.replicas[..], []);
+    assert!(judged.replicas.is_empty());
     Ok(judged.verdict)
 }
 

@@ -238,7 +238,7 @@ pub fn judged(
     tally.call("judge", answer_of(&told.verdict), compared);
     let replicas = &places.replicas[..REPLICAS.min(told.replicas as usize)];
     note(tally, image, &told.verdict, replicas);
-    ([&[told.verdict], replicas].concat(), after)
+    ([&[told.verdict][..], replicas].concat(), after)
 }
 
 fn answer_of(verdict: &FlatVerdict) -> Answer {

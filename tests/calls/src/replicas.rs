@@ -156,15 +156,15 @@ fn a_refused_frame_has_none(rng: &mut Rng, tally: &mut Tally, name: &str) {
     bad.units[0] = 4;
     full.ports[0].frames = (1 << 32) - 1;
     full.ports[0].octets = 64 * full.ports[0].frames;
-    let short = &image[..IMAGE_WORDS - 1];
+    let (whole, short) = (&image[..], &image[..IMAGE_WORDS - 1]);
     for (number, image, ledger, frame) in [
         (31, short, ledger, (0, 30, &frame)),
         (30, &unmarked[..], ledger, (0, 30, &frame)),
-        (39, &image, bad, (0, 30, &frame)),
-        (33, &image, ledger, (5, 30, &frame)),
-        (34, &image, ledger, (0, 29, &frame)),
-        (35, &image, ledger, (0, 30, &long)),
-        (38, &image, full, (0, 30, &frame)),
+        (39, whole, bad, (0, 30, &frame)),
+        (33, whole, ledger, (5, 30, &frame)),
+        (34, whole, ledger, (0, 29, &frame)),
+        (35, whole, ledger, (0, 30, &long)),
+        (38, whole, full, (0, 30, &frame)),
     ] {
         let (port, time, frame) = frame;
         let after = held(tally, name, image, ledger, (port, time, frame), &refused(number));
