@@ -10,8 +10,9 @@
  * - Each entry tests what it needs and refuses by number. Numbers of any value may be passed, also in a load state or a ledger.
  * - A pointer with a length is a slice. It must point to that many elements, aligned for their type, that nobody else
  *   writes during the call; an element lent for writing must not lie in any other slice of the same call.
- * - A load state and a ledger are lent where they lie. The pointer must not be null: it must point to one such struct, aligned, that nobody
- *   else writes during the call and that lies in no slice of the call.
+ * - A load state, a ledger and the places for replicas are lent where they lie. The pointer must not be null: it must point to one such
+ *   struct, for replicas to TAILBOW_REPLICAS of them, aligned, that nobody else writes during the call and that lie in no slice of the call.
+ *   The places for replicas and the ledger must lie apart.
  * - These two can't be tested by an entry, and are the caller's to keep; so is stack enough. A long whole load keeps four tables of 4 KB there;
  *   how much an entry needs in all no proof measures. Nothing else is the caller's to keep.
  * - Where a length is 0 no element is read or written. The pointer should still be one that isn't null, as to any object.
@@ -19,7 +20,7 @@
  * - The image is the first TAILBOW_IMAGE_WORDS words of a buffer that the caller lends. The buffer's rest is never read or written.
  * - What is const here is left as it was.
  *
- * Numbers and rules are those of document 01. The comment over each entry gives its refusals in the order in which they are
+ * Numbers and rules are those of document 01 and of document 02. The comment over each entry gives its refusals in the order in which they are
  * tested: the first that applies is the answer.
  */
 #ifndef TAILBOW_H
@@ -35,7 +36,7 @@ extern "C" {
 /* ---- Sizes ---- */
 
 /* Words of an image; a shorter buffer is refused with 31. */
-#define TAILBOW_IMAGE_WORDS 11456
+#define TAILBOW_IMAGE_WORDS 11520
 /* The most words of one write; a longer write is refused with 32. */
 #define TAILBOW_WRITE_WORDS 64
 /* The most bytes of a frame, without its checksum; a longer frame is refused with 35. */
@@ -50,6 +51,8 @@ extern "C" {
 #define TAILBOW_PORTS 5
 #define TAILBOW_PARTITIONS 8
 #define TAILBOW_METERS 45
+/* The most replicas of one frame: the most entries of block 12. */
+#define TAILBOW_REPLICAS 32
 
 /* ---- Answers ---- */
 
@@ -78,6 +81,7 @@ extern "C" {
 #define TAILBOW_REFUSED_SHARINDX 23u           /* a SHARINDX isn't below the count of 06 */
 #define TAILBOW_REFUSED_PART_SPC 24u           /* the eight PART_SPC add up to more than 929 */
 #define TAILBOW_REFUSED_INDEX_TWICE 25u        /* two entries of 05 have one INDEX */
+#define TAILBOW_REFUSED_RETAG_VLAN 28u         /* an entry of 12 has a VLAN_ING or VLAN_EGR that no entry of 07 has */
 
 /* A refused call. */
 #define TAILBOW_REFUSED_IMAGE 30u              /* the image or the load state can't be believed: see each entry */
@@ -98,7 +102,7 @@ extern "C" {
 #define TAILBOW_REFUSED_LIST_KIND 53u          /* a record of unknown kind */
 #define TAILBOW_REFUSED_LIST_LENGTH 54u        /* a list of more than 16,384 bytes */
 
-/* Why a frame is dropped. L is its bytes plus 4; k is its policing entry. */
+/* Why a frame is dropped; a replica, with 4 and 7 to 11 alone. L is the frame's bytes plus 4; k is its policing entry. */
 #define TAILBOW_DROP_SHORT 1u                  /* L below 64 */
 #define TAILBOW_DROP_INGRESS 2u                /* the port's INGRESS is clear */
 #define TAILBOW_DROP_UNTAGGED 3u               /* untagged, and the port's DRPUNTAG is set */
@@ -130,7 +134,7 @@ extern "C" {
 struct tailbow_load {
     uint32_t phase;
     uint32_t told;   /* in TAILBOW_PHASE_TOLD the answer, which is never TAILBOW_MORE */
-    uint32_t table;  /* in TAILBOW_PHASE_DATA the block's table: from 0 on 05, 06, 07, 08, 09, 0D, 0E, 11, 4E, as they stand in the image */
+    uint32_t table;  /* in TAILBOW_PHASE_DATA the block's table: from 0 on 05, 06, 07, 08, 09, 0D, 0E, 11, 4E, 12, as they stand in the image */
     uint64_t placed; /* data words of the block that stand in the image */
     uint64_t due;    /* data words of the block still to come */
     uint32_t first;  /* the header's first word */
@@ -218,7 +222,7 @@ struct tailbow_ledger {
 #define TAILBOW_VERDICT_DROP 1u
 #define TAILBOW_VERDICT_SENT 2u
 
-/* The verdict on a frame. Masks have port 0 as their lowest bit. What a kind does not have is 0. */
+/* The verdict on a frame or on a replica. Masks have port 0 as their lowest bit. What a kind does not have is 0. */
 struct tailbow_verdict {
     uint32_t kind;
     uint32_t number;                /* the refusal's or the drop's */
@@ -227,6 +231,12 @@ struct tailbow_verdict {
     uint64_t priority;              /* the new priority, q */
     uint64_t tags;                  /* those of the ports that send a tag */
     uint64_t queues[TAILBOW_PORTS]; /* its queue at each port, 0 where it isn't sent */
+};
+
+/* A frame's verdict, and how many replicas it has. */
+struct tailbow_judged {
+    struct tailbow_verdict verdict;
+    uint64_t replicas; /* 0 to TAILBOW_REPLICAS */
 };
 
 /* A tile's `kind`. Nothing is not zero: only TAILBOW_TILE_SHARES has shares. */
@@ -255,7 +265,8 @@ struct tailbow_port_tile {
 uint32_t tailbow_fresh_ledger(const uint32_t *image, size_t image_words, struct tailbow_ledger *ledger);
 
 /*
- * The verdict on a frame that came in at a port at a time in microseconds: its bytes without the checksum.
+ * The verdict on a frame that came in at a port at a time in microseconds: its bytes without the checksum. Behind it those on its replicas,
+ * for which TAILBOW_REPLICAS places are lent.
  *
  * 31  image_words is below TAILBOW_IMAGE_WORDS.
  * 30  The image isn't marked loaded, or a table's count is above its most entries or such as rule 20 refuses.
@@ -265,13 +276,21 @@ uint32_t tailbow_fresh_ledger(const uint32_t *image, size_t image_words, struct 
  * 35  bytes is above TAILBOW_FRAME_BYTES.
  * 38  The port's frames are at 2^32 - 1 or above.
  *
- * A refusal has TAILBOW_VERDICT_REFUSED and its number, and leaves the ledger as found. Otherwise the verdict is
+ * A refusal has TAILBOW_VERDICT_REFUSED, its number and no replica, and leaves the ledger and every place as found. Otherwise the verdict is
  * the first of the drops 1 to 11 that applies, or a sending. The ledger afterwards has the time as its last time and one frame of L octets
  * more at the port, and one drop of L octets more where it was dropped. From drop 9 on the meter has its credit and this time, and unless the
  * meter was short the frame's cost is spent, at drops 10 and 11 too. A sending takes one unit of its partition.
+ *
+ * Unless it was dropped with 1 to 6 the frame has a replica for each entry of 12 whose VLAN_ING is its VLAN and whose ING_PORT has the port:
+ * also where it was dropped with 7 to 11, also untagged. Their verdicts stand in the first places, in the order of the entries; the places
+ * behind them are left as found. A replica is on the entry's VLAN_EGR. It has all else of the frame, k and the priority before the new one
+ * too, and no replica. Its verdict is the first of the drops 4 and 7 to 11 that applies, or a sending, and never a refusal. The frame is
+ * judged to its end first, then each replica on the ledger that the one before has left, all at the frame's time: each spends the same cost
+ * at the same meter and takes one unit of the same partition as a frame of its own would. The last time and the port's counts are the
+ * frame's alone, so that tiles count originals only.
  */
-struct tailbow_verdict tailbow_judge(const uint32_t *image, size_t image_words, struct tailbow_ledger *ledger, size_t port, uint64_t time,
-                                     const uint8_t *frame, size_t bytes);
+struct tailbow_judged tailbow_judge(const uint32_t *image, size_t image_words, struct tailbow_ledger *ledger, size_t port, uint64_t time,
+                                    const uint8_t *frame, size_t bytes, struct tailbow_verdict *replicas);
 
 /*
  * One unit of a partition comes back.
@@ -378,6 +397,9 @@ TAILBOW_AT(tailbow_verdict, priority, 24, 8);
 TAILBOW_AT(tailbow_verdict, tags, 32, 8);
 TAILBOW_AT(tailbow_verdict, queues, 40, 40);
 TAILBOW_LONG(tailbow_verdict, 80);
+TAILBOW_AT(tailbow_judged, verdict, 0, 80);
+TAILBOW_AT(tailbow_judged, replicas, 80, 8);
+TAILBOW_LONG(tailbow_judged, 88);
 TAILBOW_AT(tailbow_port_tile, kind, 0, 4);
 TAILBOW_AT(tailbow_port_tile, number, 4, 4);
 TAILBOW_AT(tailbow_port_tile, share, 8, 8);

@@ -8,7 +8,7 @@ use cases::rng::Rng;
 use cases::rules::RULES;
 use cases::{boundaries, check};
 use reference::image::{count_place, of_lists, FIRST_COUNT, IMAGE_WORDS};
-use reference::judge::{self, FrameAnswer, ReleaseAnswer};
+use reference::judge::{self, ReleaseAnswer, Verdict};
 use reference::ledger::{self, Ledger};
 use reference::list::{Next, Reader, Record};
 use reference::load::{self, LoadAnswer, LoadState};
@@ -21,7 +21,8 @@ use crate::flat::*;
 use crate::marks;
 use crate::ours::OURS;
 use crate::peer::PEER;
-use crate::works::{self, full_frame, full_stream, k_frames, lists, Place, Sizes, FULL, LEAST};
+use crate::works::{self, full_frame, full_stream, k_frames, lists, replicating};
+use crate::works::{Place, Sizes, FULL, LEAST, REPLICAS, UNITS};
 
 /// How many configurations, and how many damaged streams of each.
 const CONFIGS: usize = 60;
@@ -32,6 +33,7 @@ const DAMAGED: usize = 6;
 pub struct Agreed {
     pub loads: usize,
     pub calls: usize,
+    pub replicas: usize,
 }
 
 type Checked = Result<(), String>;
@@ -78,7 +80,8 @@ pub fn all() -> Result<Agreed, String> {
         let profile = match number % 10 {
             0..=3 => Profile::Near,
             4..=6 => Profile::Valid,
-            7..=8 => Profile::Breaks(RULES[number / 5 % RULES.len()]),
+            // Two in ten, each the next rule's.
+            last @ 7..=8 => Profile::Breaks(RULES[(number / 10 * 2 + last - 7) % RULES.len()]),
             _ => Profile::Wild,
         };
         let config = random_config(&mut rng, profile);
@@ -99,6 +102,7 @@ pub fn all() -> Result<Agreed, String> {
 /// The streams, images and frames of the works.
 fn measured(agreed: &mut Agreed, rng: &mut Rng) -> Checked {
     let mut configs = vec![k::lists(), lists(FULL, Place::Last), lists(FULL, Place::First)];
+    configs.extend([replicating(REPLICAS), replicating(FULL)]);
     for many in [1, 16, 256, 1024, 4096] {
         configs.push(lists(Sizes { vlans: many, ..LEAST }, Place::Last));
         let addresses = many.min(FULL.addresses);
@@ -117,6 +121,8 @@ fn measured(agreed: &mut Agreed, rng: &mut Rng) -> Checked {
         frames_of(agreed, config)?;
         sequence(agreed, rng, &of_lists(config), 20)?;
     }
+    replicas_of(agreed, REPLICAS)?;
+    replicas_of(agreed, FULL)?;
     for row in ROWS {
         if configs[1].of(row.table).len() != row.most {
             return Err(format!("{:02X} of the full stream is not full", row.id));
@@ -144,6 +150,21 @@ fn frames_of(agreed: &mut Agreed, config: &Lists) -> Checked {
         from += 30;
         ledger = judged(agreed, &image, ledger, 0, from, &full_frame())?;
         shown(agreed, &image, &ledger, 0)?;
+    }
+    Ok(())
+}
+
+/// The measured frame with its replicas, kept on one ledger as it is in the work: all of them are sent, each time.
+fn replicas_of(agreed: &mut Agreed, sizes: Sizes) -> Checked {
+    let image = of_lists(&replicating(sizes));
+    let mut ledger = fresh(agreed, &image)?.ok_or("a measured image is not loaded")?;
+    for time in 0..4 {
+        ledger.units[0] = UNITS;
+        let replicas = agreed.replicas;
+        ledger = judged(agreed, &image, ledger, 0, 30 * time, &full_frame())?;
+        if (agreed.replicas - replicas, ledger.units[0]) != (sizes.retagging, 0) {
+            return Err("a measured replica is not sent".to_string());
+        }
     }
     Ok(())
 }
@@ -307,7 +328,7 @@ fn refused_write(rng: &mut Rng, image: &[u32], ours: &FlatLoad, peer: &FlatLoad)
         words = vec![0; rng.pick(&[0, 65, 100])];
         expected = 32;
     }
-    match rng.below(5) {
+    match rng.below(6) {
         0 => {
             let row = &ROWS[rng.place(ROWS.len())];
             (buffer[count_place(row.table)], expected) = (row.most as u32 + 1, 30);
@@ -320,9 +341,15 @@ fn refused_write(rng: &mut Rng, image: &[u32], ours: &FlatLoad, peer: &FlatLoad)
             let phase = rng.pick(&[6, 99, u32::MAX]);
             (our_load.phase, peer_load.phase, expected) = (phase, phase, 30);
         }
-        3 => {
+        3 if ours.phase == DATA => {
             let none = ROWS.len() as u32;
             (our_load.table, peer_load.table, expected) = (none, none, 30);
+        }
+        4 => {
+            for load in [&mut our_load, &mut peer_load] {
+                (load.phase, load.told) = (TOLD, MORE);
+            }
+            expected = 30;
         }
         _ => {}
     }
@@ -402,15 +429,35 @@ fn judged(
     frame: &[u8],
 ) -> Result<Ledger, String> {
     let (mut ours, mut peer) = (flat(&ledger), flat(&ledger));
+    let found = places();
+    let (mut our_places, mut peer_places, mut expected) = (found, found, found);
     let told = [
-        (OURS.judge)(image, &mut ours, port, time, frame),
-        (PEER.judge)(image, &mut peer, port, time, frame),
+        (OURS.judge)(image, &mut ours, port, time, frame, &mut our_places),
+        (PEER.judge)(image, &mut peer, port, time, frame, &mut peer_places),
     ];
     let (answer, after) = judge::judge(image, ledger, narrow(port), time, frame);
-    same("verdict", &told[0], &told[1], &flat_verdict(answer))?;
+    let (verdict, replicas) = (flat_verdict(answer.verdict), answer.replicas.len() as u64);
+    same("verdict", &told[0], &told[1], &FlatJudged { verdict, replicas })?;
+    // Places behind the replicas are as found.
+    for (place, replica) in expected.iter_mut().zip(&answer.replicas) {
+        *place = flat_verdict(*replica);
+    }
+    for ((ours, peer), expected) in our_places.iter().zip(&peer_places).zip(&expected) {
+        same("a replica's place", ours, peer, expected)?;
+    }
     same("ledger after a frame", &ours, &peer, &flat(&after))?;
     agreed.calls += 1;
+    agreed.replicas += answer.replicas.len();
     Ok(after)
+}
+
+/// What no verdict has, each place otherwise.
+fn places() -> Replicas {
+    std::array::from_fn(|place| FlatVerdict {
+        kind: u32::MAX,
+        vlan: 7_000 + place as u64,
+        ..FlatVerdict::default()
+    })
 }
 
 fn released(
@@ -460,13 +507,12 @@ fn flat(ledger: &Ledger) -> FlatLedger {
     }
 }
 
-fn flat_verdict(answer: FrameAnswer) -> FlatVerdict {
-    let none =
-        FlatVerdict { kind: 0, number: 0, ports: 0, vlan: 0, priority: 0, tags: 0, queues: [0; 5] };
-    match answer {
-        FrameAnswer::Refused(number) => FlatVerdict { number, ..none },
-        FrameAnswer::Drop(number) => FlatVerdict { kind: 1, number, ..none },
-        FrameAnswer::Sent(sent) => FlatVerdict {
+fn flat_verdict(verdict: Verdict) -> FlatVerdict {
+    let none = FlatVerdict::default();
+    match verdict {
+        Verdict::Refused(number) => FlatVerdict { number, ..none },
+        Verdict::Drop(number) => FlatVerdict { kind: 1, number, ..none },
+        Verdict::Sent(sent) => FlatVerdict {
             kind: 2,
             number: 0,
             ports: sent.ports.into(),

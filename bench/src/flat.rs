@@ -79,7 +79,7 @@ impl FlatLedger {
 
 /// 0 refused, 1 dropped, 2 sent; the number of the first two, the values of the last.
 #[repr(C)]
-#[derive(Clone, Copy, PartialEq, Eq, Debug)]
+#[derive(Clone, Copy, PartialEq, Eq, Debug, Default)]
 pub struct FlatVerdict {
     pub kind: u32,
     pub number: u32,
@@ -89,6 +89,17 @@ pub struct FlatVerdict {
     pub tags: u64,
     pub queues: [u64; 5],
 }
+
+/// A frame's verdict, and how many replicas it has.
+#[repr(C)]
+#[derive(Clone, Copy, PartialEq, Eq, Debug)]
+pub struct FlatJudged {
+    pub verdict: FlatVerdict,
+    pub replicas: u64,
+}
+
+/// The places that are lent for the verdicts on replicas.
+pub type Replicas = [FlatVerdict; 32];
 
 /// 0 refused, 1 not-loaded, 2 no-frames, 3 shares, by their bits.
 #[repr(C)]
@@ -100,13 +111,13 @@ pub struct FlatTile {
     pub octets: u64,
 }
 
-/// One of the two programs: the same calls in both. Load state and ledger are lent.
+/// One of the two programs: the same calls in both. Load state, ledger and places for replicas are lent.
 pub struct Program {
     pub load_words: fn(&mut [u32], &[u32]) -> u32,
     pub load_bytes: fn(&mut [u32], &[u8]) -> u32,
     pub write: fn(&mut [u32], &mut FlatLoad, &[u32]) -> u32,
     pub fresh_ledger: fn(&[u32], &mut FlatLedger) -> u32,
-    pub judge: fn(&[u32], &mut FlatLedger, usize, u64, &[u8]) -> FlatVerdict,
+    pub judge: fn(&[u32], &mut FlatLedger, usize, u64, &[u8], &mut Replicas) -> FlatJudged,
     pub release: fn(&[u32], &mut FlatLedger, usize) -> u32,
     pub tile: fn(&[u32], &FlatLedger, usize) -> FlatTile,
 }

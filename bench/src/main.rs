@@ -59,8 +59,8 @@ fn do_work(name: &str, side: &str, times: &str) -> Result<(), String> {
 fn agree_only() -> Result<(), String> {
     let agreed = agree::all()?;
     println!(
-        "Tailbow, the peer and the second program agree: {} loads, {} calls on ledgers.",
-        agreed.loads, agreed.calls
+        "Tailbow, the peer and the second program agree: {} loads, {} calls on ledgers, {} replicas.",
+        agreed.loads, agreed.calls, agreed.replicas
     );
     Ok(())
 }
@@ -71,7 +71,7 @@ fn time() -> Result<(), String> {
         "Times are medians of {} rounds; q1 and q3 are of the rounds' ratios.",
         measure::ROUNDS
     );
-    println!("Ledger and load state are lent to both.");
+    println!("Ledger, load state and places for replicas are lent to both.");
     println!();
     let main: Vec<Measured> = works::MAIN.iter().map(|(name, _)| timed(name)).collect();
     print_table(&main);

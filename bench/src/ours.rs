@@ -1,12 +1,12 @@
 //! Tailbow: the proved entries of the archive, behind the calls that both programs have.
 
-use crate::flat::{FlatLedger, FlatLoad, FlatTile, FlatVerdict, Program};
+use crate::flat::{FlatJudged, FlatLedger, FlatLoad, FlatTile, Program, Replicas};
 
 pub const OURS: Program =
     Program { load_words, load_bytes, write, fresh_ledger, judge, release, tile };
 
 mod linked {
-    use crate::flat::{FlatLedger, FlatLoad, FlatTile, FlatVerdict};
+    use crate::flat::{FlatJudged, FlatLedger, FlatLoad, FlatTile, FlatVerdict};
 
     extern "C" {
         pub fn tailbow_write(
@@ -41,7 +41,8 @@ mod linked {
             time: u64,
             frame: *const u8,
             bytes: usize,
-        ) -> FlatVerdict;
+            replicas: *mut FlatVerdict,
+        ) -> FlatJudged;
         pub fn tailbow_release(
             image: *const u32,
             words: usize,
@@ -82,10 +83,12 @@ fn judge(
     port: usize,
     time: u64,
     frame: &[u8],
-) -> FlatVerdict {
+    replicas: &mut Replicas,
+) -> FlatJudged {
     let (lent, words) = (image.as_ptr(), image.len());
     let (bytes, count) = (frame.as_ptr(), frame.len());
-    unsafe { linked::tailbow_judge(lent, words, ledger, port, time, bytes, count) }
+    let places = replicas.as_mut_ptr();
+    unsafe { linked::tailbow_judge(lent, words, ledger, port, time, bytes, count, places) }
 }
 
 fn release(image: &[u32], ledger: &mut FlatLedger, partition: usize) -> u32 {

@@ -7,9 +7,10 @@ use cases::rng::Rng;
 use reference::image::{of_lists, IMAGE_WORDS};
 use reference::k;
 use reference::stream::{bytes_of, plain_stream, Lists};
-use reference::tables::{address_lookup, policing, vlan_lookup, Table};
+use reference::tables::Table;
+use reference::tables::{address_lookup, forwarding_parameters, policing, retagging, vlan_lookup};
 
-use crate::flat::{FlatLedger, FlatLoad, Program, MORE};
+use crate::flat::{FlatLedger, FlatLoad, FlatVerdict, Program, Replicas, MORE};
 use crate::marks;
 use crate::ours::OURS;
 use crate::peer::PEER;
@@ -38,19 +39,29 @@ pub struct Sizes {
     pub vlans: usize,
     pub addresses: usize,
     pub policing: usize,
+    pub retagging: usize,
 }
 
 pub const FULL: Sizes = Sizes {
     vlans: Table::VlanLookup.most(),
     addresses: Table::L2AddressLookup.most(),
     policing: Table::L2Policing.most(),
+    retagging: Table::Retagging.most(),
 };
-pub const LEAST: Sizes = Sizes { vlans: 1, addresses: 1, ..FULL };
+pub const LEAST: Sizes = Sizes { vlans: 1, addresses: 1, retagging: 0, ..FULL };
+
+/// A VLAN for the frame, and one for each replica.
+pub const REPLICAS: Sizes =
+    Sizes { vlans: 1 + Table::Retagging.most(), retagging: FULL.retagging, ..LEAST };
+
+/// A unit for the frame, and one for each replica.
+pub const UNITS: u64 = 1 + Table::Retagging.most() as u64;
 
 /// The VLAN of every port and of the frame.
 const VLAN: u64 = 1;
 
-/// K with more entries: any VLANs and any addresses of one maker around those of the frame.
+/// K with more entries: any VLANs and any addresses of one maker around those of the frame. Entries of 12 have another VLAN_ING than the
+/// frame's VLAN, so that it has no replica.
 pub fn lists(sizes: Sizes, place: Place) -> Lists {
     let mut rng = Rng::new(8);
     let mut lists = k::lists();
@@ -72,6 +83,24 @@ pub fn lists(sizes: Sizes, place: Place) -> Lists {
         lists.put(vlan_lookup::TAG_PORT, number, 31);
     }
     put_addresses(&mut rng, &mut lists, sizes.addresses, place);
+    // The replicas' VLANs are the last ones beside the frame's.
+    vlans.retain(|&vlan| vlan != VLAN);
+    for (number, &vlan) in vlans.iter().rev().take(sizes.retagging).enumerate() {
+        lists.push_zero(Table::Retagging);
+        lists.put(retagging::ING_PORT, number, 31);
+        lists.put(retagging::VLAN_ING, number, vlans[0]);
+        lists.put(retagging::VLAN_EGR, number, vlan);
+    }
+    lists
+}
+
+/// The same, but that the frame has a replica for each entry of 12, and there are units for all of them.
+pub fn replicating(sizes: Sizes) -> Lists {
+    let mut lists = lists(sizes, Place::Last);
+    lists.put(forwarding_parameters::part_spc(0), 0, UNITS);
+    for number in 0..sizes.retagging {
+        lists.put(retagging::VLAN_ING, number, VLAN);
+    }
     lists
 }
 
@@ -132,10 +161,11 @@ fn judge_k(
     ledger: &mut FlatLedger,
     from: u64,
     frames: &[(usize, u64, Vec<u8>); 3],
+    replicas: &mut Replicas,
 ) {
     ledger.units[0] = 1;
     for (port, time, frame) in frames {
-        black_box((program.judge)(image, ledger, *port, from + time, frame));
+        black_box((program.judge)(image, ledger, *port, from + time, frame, replicas));
     }
 }
 
@@ -185,18 +215,20 @@ fn fresh(program: &Program, image: &[u32]) -> FlatLedger {
     ledger
 }
 
-/// Done on a ledger that is kept from one time to the next.
+/// Done on a ledger that is kept from one time to the next, and so are the places for replicas.
 fn judging(
     image: &[u32],
-    once: impl Fn(&Program, &[u32], &mut FlatLedger, u64) + Clone + 'static,
+    once: impl Fn(&Program, &[u32], &mut FlatLedger, u64, &mut Replicas) + Clone + 'static,
 ) -> Vec<(&'static str, Side)> {
     both(|program| {
         let (image, once) = (image.to_vec(), once.clone());
         let mut ledger = fresh(program, &image);
+        let mut replicas = [FlatVerdict::default(); 32];
         let mut time = 0;
         Box::new(move |times| {
             for _ in 0..times {
-                once(program, black_box(&image), black_box(&mut ledger), time);
+                let replicas = black_box(&mut replicas);
+                once(program, black_box(&image), black_box(&mut ledger), time, replicas);
                 time += 30;
             }
         })
@@ -205,21 +237,31 @@ fn judging(
 
 fn k_judging() -> Vec<(&'static str, Side)> {
     let frames = k_frames();
-    judging(&of_lists(&k::lists()), move |program, image, ledger, time| {
-        judge_k(program, image, ledger, time, &frames);
+    judging(&of_lists(&k::lists()), move |program, image, ledger, time, replicas| {
+        judge_k(program, image, ledger, time, &frames, replicas);
     })
 }
 
 fn frame_judging(sizes: Sizes, place: Place) -> Vec<(&'static str, Side)> {
     let frame = full_frame();
-    judging(&of_lists(&lists(sizes, place)), move |program, image, ledger, time| {
+    judging(&of_lists(&lists(sizes, place)), move |program, image, ledger, time, replicas| {
         ledger.units[0] = 1;
-        black_box((program.judge)(image, ledger, 0, time, &frame));
+        black_box((program.judge)(image, ledger, 0, time, &frame, replicas));
+    })
+}
+
+/// The frame and a replica for each entry of 12; all of them are sent.
+fn replica_judging(sizes: Sizes) -> Vec<(&'static str, Side)> {
+    let frame = full_frame();
+    judging(&of_lists(&replicating(sizes)), move |program, image, ledger, time, replicas| {
+        ledger.units[0] = UNITS;
+        black_box((program.judge)(image, ledger, 0, time, &frame, replicas));
+        assert_eq!(ledger.units[0], 0, "a measured replica was not sent");
     })
 }
 
 fn releasing() -> Vec<(&'static str, Side)> {
-    judging(&of_lists(&k::lists()), |program, image, ledger, _| {
+    judging(&of_lists(&k::lists()), |program, image, ledger, _, _| {
         ledger.units[0] = 0;
         black_box((program.release)(image, ledger, 0));
     })
@@ -243,7 +285,8 @@ fn tiles(sizes: Sizes) -> Vec<(&'static str, Side)> {
         let image = of_lists(&lists(sizes, Place::Last));
         let mut ledger = fresh(program, &image);
         for time in 0..4 {
-            (program.judge)(&image, &mut ledger, 0, time, &frame);
+            let mut replicas = [FlatVerdict::default(); 32];
+            (program.judge)(&image, &mut ledger, 0, time, &frame, &mut replicas);
         }
         Box::new(move |times| {
             for _ in 0..times {
@@ -254,7 +297,7 @@ fn tiles(sizes: Sizes) -> Vec<(&'static str, Side)> {
 }
 
 /// The main table, with its bars.
-pub const MAIN: [(&str, Option<f64>); 10] = [
+pub const MAIN: [(&str, Option<f64>); 12] = [
     ("whole load, words", Some(1.25)),
     ("whole load, bytes", None),
     ("writes of 64", Some(1.25)),
@@ -262,6 +305,8 @@ pub const MAIN: [(&str, Option<f64>); 10] = [
     ("K's frames", Some(1.25)),
     ("full, last", Some(1.15)),
     ("full, first", None),
+    ("32 replicas", Some(1.25)),
+    ("32 replicas, full", None),
     ("release", None),
     ("fresh ledger", None),
     ("tile", Some(1.3)),
@@ -306,6 +351,8 @@ pub fn work(name: &str) -> Option<Work> {
         "K's frames" => k_judging(),
         "full, last" => frame_judging(FULL, Place::Last),
         "full, first" => frame_judging(FULL, Place::First),
+        "32 replicas" => replica_judging(REPLICAS),
+        "32 replicas, full" => replica_judging(FULL),
         "release" => releasing(),
         "fresh ledger" => fresh_ledgers(FULL),
         "tile" => tiles(FULL),
@@ -315,7 +362,7 @@ pub fn work(name: &str) -> Option<Work> {
     Some(Work { name: name.to_string(), bar, sides })
 }
 
-/// `WORK / TABLE / ENTRIES`: every other table that can grow has one entry, 06 all.
+/// `WORK / TABLE / ENTRIES`: every other table that can grow has one entry, 06 all, 12 none.
 fn grown(name: &str) -> Option<Vec<(&'static str, Side)>> {
     let mut parts = name.split(" / ");
     let (work, table, many) = (parts.next()?, parts.next()?, parts.next()?.parse().ok()?);

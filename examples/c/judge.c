@@ -63,7 +63,8 @@ static uint32_t load_stream(const char *path)
     return answer;
 }
 
-static void print_verdict(unsigned number, const struct tailbow_verdict *verdict)
+/* The line of a frame or of a replica. */
+static void print_verdict(const char *what, unsigned number, const struct tailbow_verdict *verdict)
 {
     int port;
     if (verdict->kind == TAILBOW_VERDICT_REFUSED) {
@@ -71,14 +72,26 @@ static void print_verdict(unsigned number, const struct tailbow_verdict *verdict
         return;
     }
     if (verdict->kind == TAILBOW_VERDICT_DROP) {
-        printf("frame %u drop %" PRIu32 "\n", number, verdict->number);
+        printf("%s %u drop %" PRIu32 "\n", what, number, verdict->number);
         return;
     }
-    printf("frame %u sent %" PRIu64 " vlan %" PRIu64 " prio %" PRIu64 " tags %" PRIu64 " queues", number, verdict->ports, verdict->vlan,
+    printf("%s %u sent %" PRIu64 " vlan %" PRIu64 " prio %" PRIu64 " tags %" PRIu64 " queues", what, number, verdict->ports, verdict->vlan,
            verdict->priority, verdict->tags);
     for (port = 0; port < TAILBOW_PORTS; port++)
         printf(" %" PRIu64, verdict->queues[port]);
     printf("\n");
+}
+
+/* A frame, and right behind it its replicas, with the same record's number. */
+static void judge_frame(struct tailbow_ledger *ledger, unsigned number, const struct tailbow_record *record)
+{
+    struct tailbow_verdict replicas[TAILBOW_REPLICAS];
+    struct tailbow_judged judged = tailbow_judge(image, TAILBOW_IMAGE_WORDS, ledger, record->port, record->time, list + record->start,
+                                                 record->count, replicas);
+    uint64_t replica;
+    print_verdict("frame", number, &judged.verdict);
+    for (replica = 0; replica < judged.replicas; replica++)
+        print_verdict("replica", number, &replicas[replica]);
 }
 
 /* A refused release changes nothing, and the walk goes on. */
@@ -103,13 +116,10 @@ static void walk(struct tailbow_ledger *ledger, size_t bytes)
             printf("list refused %" PRIu32 "\n", record.number);
             return;
         }
-        if (record.kind == TAILBOW_RECORD_FRAME) {
-            struct tailbow_verdict verdict = tailbow_judge(image, TAILBOW_IMAGE_WORDS, ledger, record.port, record.time,
-                                                           list + record.start, record.count);
-            print_verdict(number, &verdict);
-        } else {
+        if (record.kind == TAILBOW_RECORD_FRAME)
+            judge_frame(ledger, number, &record);
+        else
             print_release(number, tailbow_release(image, TAILBOW_IMAGE_WORDS, ledger, record.partition));
-        }
         at = record.next;
     }
 }

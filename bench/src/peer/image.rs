@@ -34,6 +34,7 @@ rows! {
     FORWARDING_PARAMETERS = 0x0E, 3, 1;
     GENERAL = 0x11, 10, 1;
     XMII = 0x4E, 1, 1;
+    RETAGGING = 0x12, 2, 32;
 }
 
 const fn place(id: u32) -> usize {
@@ -167,6 +168,18 @@ pub fn port_vlan(mac: u32) -> u32 {
 #[inline(always)]
 pub fn vlan_id(entry: &[u32; 2]) -> u32 {
     entry[0] >> 27 | (entry[1] & 0x7F) << 5
+}
+
+/// VLAN_ING 53:42 of 12.
+#[inline(always)]
+pub fn vlan_ing(entry: &[u32; 2]) -> u32 {
+    entry[1] >> 10 & 0xFFF
+}
+
+/// VLAN_EGR 41:30 of 12.
+#[inline(always)]
+pub fn vlan_egr(entry: &[u32; 2]) -> u32 {
+    entry[0] >> 30 | (entry[1] & 0x3FF) << 2
 }
 
 /// PART_SPC(i): ten bits up from 13 + 10i.

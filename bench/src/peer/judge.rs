@@ -1,10 +1,10 @@
-//! One frame and a release, the ledger lent by `&mut`.
+//! One frame with its replicas, and a release, the ledger lent by `&mut`.
 
-use crate::flat::{FlatLedger, FlatVerdict};
+use crate::flat::{FlatJudged, FlatLedger, FlatVerdict, Replicas};
 
 use super::image::*;
 use super::ledger::{most_credit, out_of_range, CREDIT_A_BYTE, LAST_TIME};
-use super::search::{each_match, first_vlan, Key};
+use super::search::{each_match, first_vlan, Key, Retag};
 
 const BROADCAST: u64 = 0xFFFF_FFFF_FFFF;
 const MOST_BYTES: usize = 4_096;
@@ -15,7 +15,12 @@ fn verdict(kind: u32, number: u32) -> FlatVerdict {
     FlatVerdict { kind, number, ports: 0, vlan: 0, priority: 0, tags: 0, queues: [0; 5] }
 }
 
-/// Refusals 31, 30, 39, 33, 34, 35, 38; then the first drop, or where the frame is sent.
+#[inline(always)]
+fn refused(number: u32) -> FlatJudged {
+    FlatJudged { verdict: verdict(0, number), replicas: 0 }
+}
+
+/// Refusals 31, 30, 39, 33, 34, 35, 38; then the first drop, or where the frame is sent, and the same of its replicas.
 #[inline(never)]
 pub fn judge(
     image: &[u32],
@@ -23,41 +28,51 @@ pub fn judge(
     port: usize,
     time: u64,
     frame: &[u8],
-) -> FlatVerdict {
+    replicas: &mut Replicas,
+) -> FlatJudged {
     let Some(image) = image_of(image) else {
-        return verdict(0, 31);
+        return refused(31);
     };
     if !is_loaded(image) {
-        return verdict(0, 30);
+        return refused(30);
     }
     if out_of_range(image, ledger) {
-        return verdict(0, 39);
+        return refused(39);
     }
     if port > 4 {
-        return verdict(0, 33);
+        return refused(33);
     }
     if time < ledger.last || time > LAST_TIME {
-        return verdict(0, 34);
+        return refused(34);
     }
     if frame.len() > MOST_BYTES {
-        return verdict(0, 35);
+        return refused(35);
     }
     if ledger.frames[port] >= MOST_FRAMES {
-        return verdict(0, 38);
+        return refused(38);
     }
-    let answer = steps(image, ledger, port, time, frame);
     let octets = frame.len() as u64 + 4;
     ledger.last = time;
     ledger.frames[port] += 1;
     ledger.octets[port] += octets;
-    match answer {
+    let passed = receive(image, port, frame);
+    let past_6 = passed.as_ref().ok().map(|passed| (passed.vlan, passed.priority));
+    let verdict = match passed.and_then(|passed| go_on(image, ledger, port, time, &passed)) {
         Ok(sent) => sent,
         Err(drop) => {
             ledger.drops[port] += 1;
             ledger.dropped[port] += octets;
             verdict(1, drop)
         }
+    };
+    let mut judged = FlatJudged { verdict, replicas: 0 };
+    if let Some((vlan, priority)) = past_6 {
+        if Retag::new(vlan, port).some(entries(image, RETAGGING)) {
+            judged.replicas =
+                replicate(image, ledger, port, time, frame, (vlan, priority), replicas);
+        }
     }
+    judged
 }
 
 /// Six bytes as a number, the first highest.
@@ -67,12 +82,11 @@ fn address(bytes: &[u8; 6]) -> u64 {
     u64::from_be_bytes([0, 0, a, b, c, d, e, f])
 }
 
-/// What steps 7 to 11 need of a frame that steps 1 to 6 let by.
+/// What steps 7 to 11 need of a frame that steps 1 to 6 let by, or of its replica.
 struct Passed<'a> {
     octets: u64,
     priority: usize,
     vlan: u32,
-    /// VMEMB_PORT, VLAN_BC and TAG_PORT of the VLAN, each in the low five bits.
     members: u32,
     broadcasts: u32,
     tags: u32,
@@ -81,17 +95,88 @@ struct Passed<'a> {
     shared_learn: bool,
 }
 
+/// Drops 7 to 11, or where it is sent.
 #[inline(always)]
-fn steps(
+fn go_on(
+    image: &Image,
+    ledger: &mut FlatLedger,
+    port: usize,
+    time: u64,
+    passed: &Passed,
+) -> Result<FlatVerdict, u32> {
+    let entry = police(image, ledger, port, time, passed)?;
+    send(image, ledger, port, entry, passed)
+}
+
+/// A replica for each entry that matches, on what the one before left. It is given the frame's bytes, so that a frame without replicas
+/// keeps what it has come to in registers.
+#[inline(never)]
+fn replicate(
     image: &Image,
     ledger: &mut FlatLedger,
     port: usize,
     time: u64,
     frame: &[u8],
-) -> Result<FlatVerdict, u32> {
-    let passed = receive(image, port, frame)?;
-    let entry = police(image, ledger, port, time, &passed)?;
-    send(image, ledger, port, entry, &passed)
+    (vlan, priority): (u32, usize),
+    replicas: &mut Replicas,
+) -> u64 {
+    // Past drop 1 it has them.
+    let Some(destination) = frame.first_chunk() else {
+        return 0;
+    };
+    let (destination, octets) = (address(destination), frame.len() as u64 + 4);
+    let retag = Retag::new(vlan, port);
+    let mut many = 0;
+    let matching = entries(image, RETAGGING).iter().filter(|entry| retag.is(entry));
+    for (place, entry) in replicas.iter_mut().zip(matching) {
+        let replica = on_vlan(image, vlan_egr(entry), octets, priority, destination);
+        *place = match replica.and_then(|replica| go_on(image, ledger, port, time, &replica)) {
+            Ok(sent) => sent,
+            Err(drop) => verdict(1, drop),
+        };
+        many += 1;
+    }
+    many
+}
+
+/// What steps 7 to 11 need on this VLAN; drop 4.
+#[inline(always)]
+fn on_vlan(
+    image: &Image,
+    vlan: u32,
+    octets: u64,
+    priority: usize,
+    destination: u64,
+) -> Result<Passed<'_>, u32> {
+    let [members, broadcasts, tags] = masks(image, vlan)?;
+    let (addresses, shared_learn) = (entries(image, ADDRESSES), shared_learn(image));
+    Ok(Passed {
+        octets,
+        priority,
+        vlan,
+        members,
+        broadcasts,
+        tags,
+        destination,
+        addresses,
+        shared_learn,
+    })
+}
+
+/// SHARED_LEARN of 0D; absent means clear.
+#[inline(always)]
+fn shared_learn(image: &Image) -> bool {
+    count(image, LOOKUP) == 1 && image[BASE[LOOKUP]] >> 5 & 1 == 1
+}
+
+/// VMEMB_PORT, VLAN_BC and TAG_PORT of a VLAN, each in the low five bits; drop 4.
+#[inline(always)]
+fn masks(image: &Image, vlan: u32) -> Result<[u32; 3], u32> {
+    let Some(place) = first_vlan(entries(image, VLANS), vlan) else {
+        return Err(4);
+    };
+    let tags = (vlan_entry(image, place) >> 39) as u32;
+    Ok([tags >> 10, tags >> 5, tags])
 }
 
 /// Drops 1 to 6.
@@ -116,16 +201,12 @@ fn receive<'a>(image: &'a Image, port: usize, frame: &[u8]) -> Result<Passed<'a>
     } else if mac_word & 32 != 0 {
         return Err(3);
     }
-    let Some(place) = first_vlan(entries(image, VLANS), vlan) else {
-        return Err(4);
-    };
-    let tags = (vlan_entry(image, place) >> 39) as u32;
-    let (members, broadcasts) = (tags >> 10, tags >> 5);
+    let [members, broadcasts, tags] = masks(image, vlan)?;
     if tagged && members >> port & 1 == 0 {
         return Err(5);
     }
     let addresses = entries::<3>(image, ADDRESSES);
-    let shared_learn = count(image, LOOKUP) == 1 && image[BASE[LOOKUP]] >> 5 & 1 == 1;
+    let shared_learn = shared_learn(image);
     let source = address(head[6..].first_chunk().unwrap());
     if enforced_elsewhere(addresses, Key::new(source, vlan, shared_learn), port) {
         return Err(6);

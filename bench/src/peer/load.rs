@@ -118,15 +118,26 @@ fn blocks<W: Words>(image: &mut Image, words: W) -> u32 {
     }
 }
 
-/// 30: a count above its limit, or more words due than the block's table has room for.
+/// 30: no phase; a count above its limit; in a block no table, or more words due than it has room for; "more" as the told answer.
 #[inline(always)]
 fn beyond(image: &Image, load: &FlatLoad) -> bool {
-    if above_limit(image) {
+    match load.phase {
+        FRESH => false,
+        DATA => above_limit(image) || no_room(image, load),
+        TOLD => above_limit(image) || load.told == MORE,
+        phase => phase > TOLD || above_limit(image),
+    }
+}
+
+/// Counts are within their limits.
+#[inline(always)]
+fn no_room(image: &Image, load: &FlatLoad) -> bool {
+    let table = load.table as usize;
+    if table >= TABLES {
         return true;
     }
-    let table = load.table as usize;
     let room = (MOST[table] as usize - count(image, table)) * SIZE[table];
-    load.phase == DATA && load.placed.saturating_add(load.due) > room as u64
+    load.placed.saturating_add(load.due) > room as u64
 }
 
 #[inline(never)]
@@ -134,10 +145,7 @@ pub fn write(image: &mut [u32], load: &mut FlatLoad, words: &[u32]) -> u32 {
     let Some(image) = image_in(image) else {
         return 31;
     };
-    if load.phase > TOLD || load.table as usize >= TABLES {
-        return 30;
-    }
-    if load.phase != FRESH && beyond(image, load) {
+    if beyond(image, load) {
         return 30;
     }
     if words.is_empty() || words.len() > MOST_WORDS_A_WRITE {

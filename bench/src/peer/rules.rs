@@ -10,16 +10,16 @@ pub fn first_broken_rule(image: &Image) -> u32 {
         return 20;
     }
     // A mark a VLAN: as many marks as entries where no two are equal.
-    let mut marks = [0u8; 4096];
+    let mut known = [0u8; 4096];
     let vlans = entries::<2>(image, VLANS);
     for entry in vlans {
-        marks[vlan_id(entry) as usize] = 1;
+        known[vlan_id(entry) as usize] = 1;
     }
-    if marked(&marks) != vlans.len() {
+    if marked(&known) != vlans.len() {
         return 21;
     }
     for port in 0..5 {
-        if marks[port_vlan(mac(image, port)) as usize] == 0 {
+        if known[port_vlan(mac(image, port)) as usize] == 0 {
             return 22;
         }
     }
@@ -41,6 +41,11 @@ pub fn first_broken_rule(image: &Image) -> u32 {
     }
     if marked(&marks) != addresses.len() {
         return 25;
+    }
+    for entry in entries::<2>(image, RETAGGING) {
+        if known[vlan_ing(entry) as usize] == 0 || known[vlan_egr(entry) as usize] == 0 {
+            return 28;
+        }
     }
     0
 }

@@ -75,3 +75,33 @@ pub fn each_match(entries: &[[u32; 3]], key: Key, mut seen: impl FnMut(&[u32; 3]
         }
     }
 }
+
+/// What a VLAN in VLAN_ING 53:42 and a port in ING_PORT 58:54 look like in word 1 of a 12 entry.
+#[derive(Clone, Copy)]
+pub struct Retag {
+    bits: u32,
+    mask: u32,
+}
+
+impl Retag {
+    #[inline(always)]
+    pub fn new(vlan: u32, port: usize) -> Retag {
+        let port = 1 << (22 + port);
+        Retag { bits: vlan << 10 | port, mask: 0xFFF << 10 | port }
+    }
+
+    #[inline(always)]
+    pub fn is(&self, entry: &[u32; 2]) -> bool {
+        entry[1] & self.mask == self.bits
+    }
+
+    /// Some entry matches. Without any entry this is all that a frame pays for replicas.
+    #[inline(always)]
+    pub fn some(&self, entries: &[[u32; 2]]) -> bool {
+        let mut some = false;
+        for entry in entries {
+            some |= self.is(entry);
+        }
+        some
+    }
+}

@@ -3,8 +3,8 @@
 use std::io::{self, Read, Write};
 
 use tailbow::{
-    load_bytes, Answer, Ledger, Record, Records, Refusal, Tile, Verdict, IMAGE_WORDS, LIST_BYTES,
-    PORTS,
+    load_bytes, Answer, Judged, Ledger, Record, Records, Refusal, Tile, Verdict, IMAGE_WORDS,
+    LIST_BYTES, PORTS,
 };
 
 fn main() -> io::Result<()> {
@@ -46,29 +46,39 @@ fn load(image: &mut [u32]) -> Result<Ledger, Refusal> {
 fn walk(out: &mut impl Write, image: &[u32], ledger: &mut Ledger, list: &[u8]) -> io::Result<()> {
     for (before, record) in Records::of(list).enumerate() {
         let number = before + 1;
-        let line = match record {
+        match record {
             Ok(Record::Frame { port, time, bytes }) => {
-                frame_line(number, ledger.judge(image, port, time, bytes))
+                match ledger.judge(image, port, time, bytes) {
+                    Ok(judged) => frame_lines(out, number, &judged)?,
+                    Err(refusal) => writeln!(out, "refused {}", refusal.number())?,
+                }
             }
             Ok(Record::Release { partition }) => match ledger.release(image, partition) {
-                Ok(()) => format!("release {number} ok"),
-                Err(refusal) => format!("refused {}", refusal.number()),
+                Ok(()) => writeln!(out, "release {number} ok")?,
+                Err(refusal) => writeln!(out, "refused {}", refusal.number())?,
             },
-            Err(refusal) => format!("list refused {}", refusal.number()),
-        };
-        writeln!(out, "{line}")?;
+            Err(refusal) => writeln!(out, "list refused {}", refusal.number())?,
+        }
     }
     Ok(())
 }
 
-fn frame_line(number: usize, verdict: Result<Verdict, Refusal>) -> String {
+/// The frame's line, and right behind it a line for each replica, with the same record's number.
+fn frame_lines(out: &mut impl Write, number: usize, judged: &Judged) -> io::Result<()> {
+    writeln!(out, "{}", verdict_line("frame", number, &judged.verdict))?;
+    for replica in &judged.replicas {
+        writeln!(out, "{}", verdict_line("replica", number, replica))?;
+    }
+    Ok(())
+}
+
+fn verdict_line(what: &str, number: usize, verdict: &Verdict) -> String {
     match verdict {
-        Err(refusal) => format!("refused {}", refusal.number()),
-        Ok(Verdict::Drop(cause)) => format!("frame {number} drop {}", cause.number()),
-        Ok(Verdict::Sent(sent)) => {
+        Verdict::Drop(cause) => format!("{what} {number} drop {}", cause.number()),
+        Verdict::Sent(sent) => {
             let [a, b, c, d, e] = sent.queues;
             format!(
-                "frame {number} sent {} vlan {} prio {} tags {} queues {a} {b} {c} {d} {e}",
+                "{what} {number} sent {} vlan {} prio {} tags {} queues {a} {b} {c} {d} {e}",
                 sent.ports, sent.vlan, sent.priority, sent.tags
             )
         }

@@ -1,7 +1,10 @@
 //! Ledgers, and what is asked of them: frames, releases and tiles.
 
+use core::fmt;
+use core::ops::Deref;
+
 use crate::numbers::{done, drop_cause, refusal, DropCause, Refusal};
-use crate::raw;
+use crate::{raw, REPLICAS};
 
 /// What a night has come to under one image: units left, meters, the last time, and each port's counts.
 #[derive(Clone, Copy, PartialEq, Eq, Debug)]
@@ -9,13 +12,61 @@ pub struct Ledger {
     flat: raw::FlatLedger,
 }
 
-/// What the switch does with a frame.
+/// What the switch does with a frame, or with a replica of one.
 #[derive(Clone, Copy, PartialEq, Eq, Hash, Debug)]
 pub enum Verdict {
-    /// It drops the frame.
+    /// It drops it.
     Drop(DropCause),
-    /// It sends the frame.
+    /// It sends it.
     Sent(Sent),
+}
+
+/// A frame's verdict, and those on its replicas.
+#[derive(Clone, Copy, PartialEq, Eq, Debug)]
+pub struct Judged {
+    /// The verdict on the frame itself.
+    pub verdict: Verdict,
+    /// One for each entry of block 12 whose VLAN_ING is the frame's VLAN and whose ING_PORT has its port, unless it was dropped with 1 to 6.
+    pub replicas: Replicas,
+}
+
+/// The verdicts on a frame's replicas, in the order of their entries in block 12: a slice of 0 to [`REPLICAS`] of them.
+#[derive(Clone, Copy)]
+pub struct Replicas {
+    /// What stands at `count` and behind it is no verdict on anything.
+    places: [Verdict; REPLICAS],
+    count: usize,
+}
+
+impl Deref for Replicas {
+    type Target = [Verdict];
+
+    fn deref(&self) -> &[Verdict] {
+        &self.places[..self.count]
+    }
+}
+
+impl PartialEq for Replicas {
+    fn eq(&self, other: &Replicas) -> bool {
+        self[..] == other[..]
+    }
+}
+
+impl Eq for Replicas {}
+
+impl fmt::Debug for Replicas {
+    fn fmt(&self, text: &mut fmt::Formatter<'_>) -> fmt::Result {
+        self[..].fmt(text)
+    }
+}
+
+impl<'a> IntoIterator for &'a Replicas {
+    type Item = &'a Verdict;
+    type IntoIter = core::slice::Iter<'a, Verdict>;
+
+    fn into_iter(self) -> Self::IntoIter {
+        self.iter()
+    }
 }
 
 /// Where a frame is sent, and how.
@@ -84,24 +135,31 @@ impl Ledger {
         Ok(Ledger { flat })
     }
 
-    /// The verdict on a frame that came in at a port at a time in µs: its bytes without the checksum.
+    /// The verdict on a frame that came in at a port at a time in µs, its bytes without the checksum, and those on its replicas.
     ///
     /// Refusals change nothing. In this order: 31, 30, 39 for a ledger that is out of range under this image, 33 for a port above 4,
     /// 34 for a time before the last one or above 2^48 - 1, 35 for more than 4,096 bytes, 38 where the port's frames are at 2^32 - 1.
-    /// Every verdict sets the last time and the port's counts.
+    /// The frame's verdict sets the last time and the port's counts. A replica's does neither, so that tiles count originals only. It
+    /// spends at the frame's meter and takes a unit of the frame's partition, behind the frame and the replicas before it.
     pub fn judge(
         &mut self,
         image: &[u32],
         port: usize,
         time: u64,
         frame: &[u8],
-    ) -> Result<Verdict, Refusal> {
-        let verdict = raw::judge(image, &mut self.flat, port, time, frame);
-        match verdict.kind {
-            0 => Err(refusal(verdict.number)),
-            1 => Ok(Verdict::Drop(drop_cause(verdict.number))),
-            _ => Ok(Verdict::Sent(sent(&verdict))),
+    ) -> Result<Judged, Refusal> {
+        let mut places = [raw::FlatVerdict::default(); REPLICAS];
+        let judged = raw::judge(image, &mut self.flat, port, time, frame, &mut places);
+        if judged.verdict.kind == 0 {
+            return Err(refusal(judged.verdict.number));
         }
+        let verdict = verdict_of(&judged.verdict);
+        let mut replicas =
+            Replicas { places: [verdict; REPLICAS], count: judged.replicas as usize };
+        for (place, flat) in replicas.places.iter_mut().zip(&places[..replicas.count]) {
+            *place = verdict_of(flat);
+        }
+        Ok(Judged { verdict, replicas })
     }
 
     /// One unit of a partition comes back.
@@ -156,6 +214,14 @@ impl Ledger {
     /// The ledger of these numbers. Any are taken; a call refuses with 39 those that are out of range under its image.
     pub fn of_numbers(numbers: raw::FlatLedger) -> Ledger {
         Ledger { flat: numbers }
+    }
+}
+
+/// A verdict that is no refusal, as a replica's never is.
+fn verdict_of(flat: &raw::FlatVerdict) -> Verdict {
+    match flat.kind {
+        1 => Verdict::Drop(drop_cause(flat.number)),
+        _ => Verdict::Sent(sent(flat)),
     }
 }
 

@@ -1,8 +1,8 @@
 //! Tailbow judges what a five-port SJA1105TEL switch does with a frame. This crate is a safe interface to its proved entries.
 //!
 //! It takes the static configuration that a bench sends to its switch, works out for each frame whether the switch would send it, where
-//! and with which tag, and gives each port's share of dropped frames. It keeps nothing and zero apart: a configuration that did
-//! not load is not judged, and a port with no frames shows no share.
+//! and with which tag, and the same for the frame's replicas, and gives each port's share of dropped frames. It keeps nothing and zero
+//! apart: a configuration that did not load is not judged, and a port with no frames shows no share.
 //!
 //! The entries are Rattle, proved against their promises, and linked as the archive `libtailbow_c.a`. `rt staticlib tailbow_c` writes
 //! it to the repository's `target/staticlib`; the variable `TAILBOW_STATICLIB` names another folder. What is proved ends at the
@@ -26,13 +26,13 @@ mod load;
 mod numbers;
 pub mod raw;
 
-pub use frames::{Counts, Ledger, Sent, Tile, Verdict};
+pub use frames::{Counts, Judged, Ledger, Replicas, Sent, Tile, Verdict};
 pub use list::{Record, Records};
 pub use load::{load_bytes, load_words, Answer, Load};
 pub use numbers::{DropCause, Refusal};
 
 /// Words of an image; a shorter buffer is refused with 31.
-pub const IMAGE_WORDS: usize = 11_456;
+pub const IMAGE_WORDS: usize = 11_520;
 
 /// The most words of one write; a longer one is refused with 32.
 pub const WRITE_WORDS: usize = 64;
@@ -42,3 +42,6 @@ pub const LIST_BYTES: usize = 16_384;
 
 /// Ports of the switch.
 pub const PORTS: usize = 5;
+
+/// The most replicas of one frame: the most entries of block 12.
+pub const REPLICAS: usize = 32;

@@ -1,8 +1,8 @@
-//! Document 01's numbers by name: why a load, a call or a list is refused, and why a frame is dropped.
+//! The documents' numbers by name: why a load, a call or a list is refused, and why a frame is dropped.
 
 use core::fmt;
 
-/// An enum whose cases are document 01's numbers, each with its words.
+/// An enum whose cases are the documents' numbers, each with its words.
 macro_rules! numbered {
     ($(#[$doc:meta])* $name:ident { $($case:ident = $number:literal, $words:literal;)* }) => {
         $(#[$doc])*
@@ -16,7 +16,7 @@ macro_rules! numbered {
             /// Every case, in ascending order of its number.
             pub const ALL: &'static [$name] = &[$($name::$case),*];
 
-            /// The number that document 01 gives it.
+            /// The number that documents 01 and 02 give it.
             pub const fn number(self) -> u32 {
                 self as u32
             }
@@ -59,6 +59,7 @@ numbered! {
         Sharindx = 23, "some SHARINDX isn't below the count of 06";
         PartSpc = 24, "the eight PART_SPC add up to more than 929";
         IndexTwice = 25, "two entries of 05 have one INDEX";
+        RetagVlan = 28, "an entry of 12 has a VLAN_ING or VLAN_EGR that no entry of 07 has";
         Image = 30, "the image or the load state can't be believed";
         BufferShort = 31, "the image's buffer is too short";
         WriteLength = 32, "a write of 0 words or above 64";
@@ -80,7 +81,7 @@ numbered! {
 impl core::error::Error for Refusal {}
 
 numbered! {
-    /// Why a frame is dropped: the first of these that applies. L is its bytes plus 4.
+    /// Why a frame is dropped: the first of these that applies. A replica has 4 and 7 to 11 alone. L is the frame's bytes plus 4.
     DropCause {
         Short = 1, "L is below 64";
         Ingress = 2, "the port's INGRESS is clear";

@@ -1,8 +1,10 @@
 //! The entries as the archive has them: a state, a ledger, a verdict and a tile are structs of numbers, an answer is a number.
-//! A load state and a ledger are lent, and brought up to date where they lie.
+//! A load state, a ledger and the places for replicas are lent, and brought up to date where they lie.
 //!
 //! Every function here takes any numbers and any slices, and refuses by number what it can't take; so all of them are safe.
 //! `include/tailbow.h` has the same functions and structs for C, with each one's promise in words.
+
+use crate::REPLICAS;
 
 /// "More" as a number; document 01 gives it none.
 pub const MORE: u32 = 0xFFFF_FFFF;
@@ -54,9 +56,9 @@ pub struct FlatLedger {
     pub last: u64,
 }
 
-/// A verdict as numbers. What a kind does not have is 0.
+/// A verdict as numbers, on a frame or on a replica. What a kind does not have is 0, and the default is 0 throughout.
 #[repr(C)]
-#[derive(Clone, Copy, PartialEq, Eq, Debug)]
+#[derive(Clone, Copy, PartialEq, Eq, Debug, Default)]
 pub struct FlatVerdict {
     /// 0 refused, 1 dropped, 2 sent.
     pub kind: u32,
@@ -72,6 +74,16 @@ pub struct FlatVerdict {
     pub tags: u64,
     /// Its queue at each port, 0 where it isn't sent.
     pub queues: [u64; 5],
+}
+
+/// A frame's verdict, and how many replicas it has.
+#[repr(C)]
+#[derive(Clone, Copy, PartialEq, Eq, Debug)]
+pub struct FlatJudged {
+    /// The verdict on the frame itself.
+    pub verdict: FlatVerdict,
+    /// 0 to [`REPLICAS`].
+    pub replicas: u64,
 }
 
 /// A tile as numbers. What a kind does not have is 0.
@@ -111,7 +123,7 @@ pub struct FlatRecord {
 }
 
 mod linked {
-    use super::{FlatLedger, FlatLoad, FlatRecord, FlatTile, FlatVerdict};
+    use super::{FlatJudged, FlatLedger, FlatLoad, FlatRecord, FlatTile, FlatVerdict};
 
     extern "C" {
         pub fn tailbow_fresh_load(load: *mut FlatLoad);
@@ -147,7 +159,8 @@ mod linked {
             time: u64,
             frame: *const u8,
             bytes: usize,
-        ) -> FlatVerdict;
+            replicas: *mut FlatVerdict,
+        ) -> FlatJudged;
         pub fn tailbow_release(
             image: *const u32,
             image_words: usize,
@@ -164,8 +177,8 @@ mod linked {
     }
 }
 
-// Each call below passes a slice's own pointer and length, and a load state or a ledger that nobody else may write meanwhile: all that the
-// entries ask of a caller.
+// Each call below passes a slice's own pointer and length, and a load state, a ledger or places for replicas that nobody else may write
+// meanwhile: all that the entries ask of a caller.
 
 /// The load state before a first write, whatever stood there.
 pub fn fresh_load(load: &mut FlatLoad) {
@@ -195,16 +208,19 @@ pub fn fresh_ledger(image: &[u32], ledger: &mut FlatLedger) -> u32 {
     unsafe { linked::tailbow_fresh_ledger(image.as_ptr(), image.len(), ledger) }
 }
 
-/// A frame that came in at a port at a time in µs.
+/// A frame that came in at a port at a time in µs. The verdicts on its replicas stand in the first places; those behind are left as found.
 pub fn judge(
     image: &[u32],
     ledger: &mut FlatLedger,
     port: usize,
     time: u64,
     frame: &[u8],
-) -> FlatVerdict {
+    replicas: &mut [FlatVerdict; REPLICAS],
+) -> FlatJudged {
     let (lent, length) = (image.as_ptr(), image.len());
-    unsafe { linked::tailbow_judge(lent, length, ledger, port, time, frame.as_ptr(), frame.len()) }
+    let (bytes, count) = (frame.as_ptr(), frame.len());
+    let places = replicas.as_mut_ptr();
+    unsafe { linked::tailbow_judge(lent, length, ledger, port, time, bytes, count, places) }
 }
 
 /// One unit of a partition comes back: the refusal's number, 0 for none.

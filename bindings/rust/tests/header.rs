@@ -4,7 +4,7 @@ use std::collections::BTreeMap;
 use std::mem::{offset_of, size_of};
 use std::path::Path;
 
-use tailbow::raw::{FlatLedger, FlatLoad, FlatRecord, FlatTile, FlatVerdict};
+use tailbow::raw::{FlatJudged, FlatLedger, FlatLoad, FlatRecord, FlatTile, FlatVerdict};
 use tailbow::{DropCause, Refusal};
 
 fn text(name: &str) -> String {
@@ -52,9 +52,10 @@ fn refusals_have_the_same_names_and_numbers() {
         .map(|refusal| (upper(&format!("{refusal:?}")), refusal.number()))
         .collect();
     assert_eq!(defined("TAILBOW_REFUSED_"), ours);
-    // Document 01's numbers, and no other.
+    // Document 01's numbers, 28 of document 02, and no other.
     let numbers: Vec<u32> = Refusal::ALL.iter().map(|refusal| refusal.number()).collect();
-    let expected: Vec<u32> = (1..=10).chain(20..=25).chain(30..=39).chain(50..=54).collect();
+    let expected: Vec<u32> =
+        (1..=10).chain(20..=25).chain([28]).chain(30..=39).chain(50..=54).collect();
     assert_eq!(numbers, expected);
     for number in 0..100 {
         let found = Refusal::of_number(number).map(Refusal::number);
@@ -164,6 +165,7 @@ fn structs_have_the_same_layout() {
         tags,
         queues
     );
+    layout!(ours, "tailbow_judged", FlatJudged, verdict, replicas);
     layout!(ours, "tailbow_port_tile", FlatTile, kind, number, share, octets);
     layout!(
         ours,
@@ -193,6 +195,7 @@ fn sizes_and_more_are_the_same() {
         ("WRITE_WORDS", tailbow::WRITE_WORDS),
         ("LIST_BYTES", tailbow::LIST_BYTES),
         ("PORTS", tailbow::PORTS),
+        ("REPLICAS", tailbow::REPLICAS),
     ];
     for (name, size) in sizes {
         let line = format!("#define TAILBOW_{name} {size}");

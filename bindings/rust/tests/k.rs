@@ -33,6 +33,19 @@ fn broadcast(bytes: usize) -> Vec<u8> {
 /// K's first frame, as document 01 prints it: `sent 30 vlan 1 prio 0 tags 0 queues 0 0 0 0 0`.
 const SENT: Sent = Sent { ports: 30, vlan: 1, priority: 0, tags: 0, queues: [0; 5] };
 
+/// A frame's verdict. K has no entry in 12, so that no frame has a replica.
+fn judge(
+    ledger: &mut Ledger,
+    image: &[u32],
+    port: usize,
+    time: u64,
+    frame: &[u8],
+) -> Result<Verdict, Refusal> {
+    let judged = ledger.judge(image, port, time, frame)?;
+    assert!(judged.replicas.is_empty());
+    Ok(judged.verdict)
+}
+
 /// Untagged broadcasts of 60 bytes on port 0 at 10 and 20, release of 0, then 59 bytes on port 1 at 30.
 #[test]
 fn the_list_has_the_records_that_document_01_names() {
@@ -65,7 +78,7 @@ fn the_list_gets_the_verdicts_and_tiles_that_document_01_prints() {
     for record in Records::of(&list) {
         match record.unwrap() {
             Record::Frame { port, time, bytes } => {
-                verdicts.push(ledger.judge(&image, port, time, bytes).unwrap());
+                verdicts.push(judge(&mut ledger, &image, port, time, bytes).unwrap());
             }
             Record::Release { partition } => ledger.release(&image, partition).unwrap(),
         }
@@ -105,7 +118,7 @@ fn no_drops_is_a_share_of_plus_zero() {
     let image = k_image();
     let mut ledger = Ledger::fresh(&image).unwrap();
     assert_eq!(ledger.tile(&image, 0), Ok(Tile::NoFrames));
-    assert_eq!(ledger.judge(&image, 0, 10, &broadcast(60)), Ok(Verdict::Sent(SENT)));
+    assert_eq!(judge(&mut ledger, &image, 0, 10, &broadcast(60)), Ok(Verdict::Sent(SENT)));
     let Ok(Tile::Shares { frames, octets }) = ledger.tile(&image, 0) else {
         panic!("no shares");
     };
@@ -201,14 +214,14 @@ fn a_refused_call_by_its_number_changes_nothing() {
     assert_eq!(refused(fresh, 4, (1 << 48) - 1, 4097), Refusal::FrameLength);
     let mut ledger = fresh;
     let long = Ok(Verdict::Drop(DropCause::Maxlen));
-    assert_eq!(ledger.judge(&image, 4, (1 << 48) - 1, &broadcast(4096)), long);
+    assert_eq!(judge(&mut ledger, &image, 4, (1 << 48) - 1, &broadcast(4096)), long);
     assert_eq!(refused(ledger, 4, (1 << 48) - 2, 60), Refusal::Time);
     // One unit of partition 0 is there, and none is out.
     let mut ledger = fresh;
     assert_eq!(ledger.release(&image, 8), Err(Refusal::Partition));
     assert_eq!(ledger.release(&image, 0), Err(Refusal::NothingOut));
     assert_eq!(ledger, fresh);
-    assert_eq!(ledger.judge(&image, 0, 10, &broadcast(60)), Ok(Verdict::Sent(SENT)));
+    assert_eq!(judge(&mut ledger, &image, 0, 10, &broadcast(60)), Ok(Verdict::Sent(SENT)));
     assert_eq!(ledger.units(0), Some(0));
     assert_eq!(ledger.release(&image, 0), Ok(()));
     assert_eq!(ledger.units(0), Some(1));
@@ -226,7 +239,7 @@ fn a_refused_call_by_its_number_changes_nothing() {
     assert_eq!(refused(ledger, 0, 10, 60), Refusal::FramesFull);
     numbers.frames[0] -= 1;
     let mut ledger = Ledger::of_numbers(numbers);
-    assert_eq!(ledger.judge(&image, 0, 10, &broadcast(60)), Ok(Verdict::Sent(SENT)));
+    assert_eq!(judge(&mut ledger, &image, 0, 10, &broadcast(60)), Ok(Verdict::Sent(SENT)));
 }
 
 #[test]

@@ -1,16 +1,19 @@
-//! Ledgers, frames, releases and tiles: each call made twice, by the proved entry and by the second program.
+//! Ledgers, frames with their replicas, releases and tiles: each call made twice, by the proved entry and by the second program.
 
 use std::hint::black_box;
 
 use cases::edit::{edited_image, edited_ledger};
 use cases::generate::{later, random_frame};
 use cases::rng::Rng;
-use reference::judge::{self, FrameAnswer, ReleaseAnswer};
+use reference::image::{count, too_short};
+use reference::judge::{self, ReleaseAnswer, Verdict};
 use reference::ledger::{self, Ledger, PortCounts, LAST_TIME};
+use reference::tables::Table;
 use reference::tile::{self, TileAnswer};
 
 use crate::tally::{same, Answer, Tally};
-use tailbow::raw::{self as entries, FlatLedger, FlatTile, FlatVerdict};
+use tailbow::raw::{self as entries, FlatJudged, FlatLedger, FlatTile, FlatVerdict};
+use tailbow::REPLICAS;
 
 /// Calls in a sequence.
 const STEPS: usize = 32;
@@ -136,6 +139,51 @@ impl Lent {
     }
 }
 
+/// Places for replicas that are lent, between two that are nobody's.
+#[repr(C)]
+#[derive(Clone, Copy)]
+struct Places {
+    before: FlatVerdict,
+    replicas: [FlatVerdict; REPLICAS],
+    after: FlatVerdict,
+}
+
+impl Places {
+    /// As they are found: what no verdict has, each place otherwise.
+    fn found() -> Places {
+        let place = |number: usize| FlatVerdict {
+            kind: 0x5A5A_A5A5,
+            number: number as u32,
+            ports: u64::MAX,
+            vlan: u64::MAX,
+            priority: u64::MAX,
+            tags: u64::MAX,
+            queues: [u64::MAX; 5],
+        };
+        Places { before: place(1_000), replicas: std::array::from_fn(place), after: place(2_000) }
+    }
+
+    /// Where these verdicts stand in the first places, and all else is as found.
+    fn with(replicas: &[Verdict]) -> Places {
+        let mut places = Places::found();
+        for (place, replica) in places.replicas.iter_mut().zip(replicas) {
+            *place = flat_verdict(*replica);
+        }
+        places
+    }
+
+    /// Ok where every place is equal; else the first that isn't.
+    fn same(&self, expected: &Places) -> Result<(), String> {
+        for (number, (ours, expected)) in self.replicas.iter().zip(&expected.replicas).enumerate() {
+            if ours != expected {
+                return same(&format!("replica's place {number}"), ours, expected);
+            }
+        }
+        let around = |places: &Places| [places.before, places.after];
+        same("around the places", around(self), around(expected))
+    }
+}
+
 fn numbers<const N: usize>(rng: &mut Rng) -> [u64; N] {
     std::array::from_fn(|_| rng.next())
 }
@@ -161,22 +209,60 @@ pub fn frame(
     name: &str,
     image: &[u32],
     ledger: Ledger,
-    (port, time): (usize, u64),
+    at: (usize, u64),
     frame: &[u8],
 ) -> Ledger {
+    judged(tally, name, image, ledger, at, frame).1
+}
+
+/// A frame with its replicas; gives the verdicts, the frame's own first, and the ledger after them.
+pub fn judged(
+    tally: &mut Tally,
+    name: &str,
+    image: &[u32],
+    ledger: Ledger,
+    (port, time): (usize, u64),
+    frame: &[u8],
+) -> (Vec<FlatVerdict>, Ledger) {
     let (expected, after) = judge::judge(image, ledger, narrow(port), time, frame);
-    let mut lent = Lent::of(&ledger);
-    let verdict = entries::judge(image, &mut lent.ledger, port, time, frame);
-    let compared = same("verdict", verdict, flat_verdict(expected))
-        .and(same("lent ledger", lent, Lent::of(&after)))
-        .map_err(|failure| format!("{name}: port {port}, time {time}, {frame:02X?}: {failure}"));
-    let answer = match verdict.kind {
+    let (mut lent, mut places) = (Lent::of(&ledger), Places::found());
+    let told = entries::judge(image, &mut lent.ledger, port, time, frame, &mut places.replicas);
+    let verdict = flat_verdict(expected.verdict);
+    let compared =
+        same("verdict", told, FlatJudged { verdict, replicas: expected.replicas.len() as u64 })
+            .and(places.same(&Places::with(&expected.replicas)))
+            .and(same("lent ledger", lent, Lent::of(&after)))
+            .map_err(|failure| {
+                format!("{name}: port {port}, time {time}, {frame:02X?}: {failure}")
+            });
+    tally.call("judge", answer_of(&told.verdict), compared);
+    let replicas = &places.replicas[..REPLICAS.min(told.replicas as usize)];
+    note(tally, image, &told.verdict, replicas);
+    ([&[told.verdict][..], replicas].concat(), after)
+}
+
+fn answer_of(verdict: &FlatVerdict) -> Answer {
+    match verdict.kind {
         0 => Answer::Refused(verdict.number),
         1 => Answer::Drop(verdict.number),
         _ => Answer::Told("sent"),
+    }
+}
+
+/// How many replicas the frame has, and what each came to.
+fn note(tally: &mut Tally, image: &[u32], verdict: &FlatVerdict, replicas: &[FlatVerdict]) {
+    let many = match replicas.len() {
+        0 if verdict.kind > 0 => "none",
+        0 if too_short(image) || count(image, Table::Retagging) == 0 => return,
+        0 => "refused",
+        1 => "one",
+        REPLICAS => "all 32",
+        _ => "several",
     };
-    tally.call("judge", answer, compared);
-    after
+    tally.seen("replicas", Answer::Told(many));
+    for replica in replicas {
+        tally.seen("replica", answer_of(replica));
+    }
 }
 
 pub fn release(
@@ -236,13 +322,12 @@ fn flat(ledger: &Ledger) -> FlatLedger {
     }
 }
 
-fn flat_verdict(answer: FrameAnswer) -> FlatVerdict {
-    let none =
-        FlatVerdict { kind: 0, number: 0, ports: 0, vlan: 0, priority: 0, tags: 0, queues: [0; 5] };
-    match answer {
-        FrameAnswer::Refused(number) => FlatVerdict { number, ..none },
-        FrameAnswer::Drop(number) => FlatVerdict { kind: 1, number, ..none },
-        FrameAnswer::Sent(sent) => FlatVerdict {
+fn flat_verdict(verdict: Verdict) -> FlatVerdict {
+    let none = FlatVerdict::default();
+    match verdict {
+        Verdict::Refused(number) => FlatVerdict { number, ..none },
+        Verdict::Drop(number) => FlatVerdict { kind: 1, number, ..none },
+        Verdict::Sent(sent) => FlatVerdict {
             kind: 2,
             number: 0,
             ports: sent.ports.into(),

@@ -7,6 +7,7 @@ mod flips;
 mod frames;
 mod lists;
 mod pair;
+mod replicas;
 mod six_numbers;
 mod states;
 mod streams;
@@ -43,8 +44,8 @@ const BOUNDARIES_EVERY: u64 = 300;
 const VECTORS: [&str; 7] =
     ["01_min", "02_K", "06_rand", "13_maxfields", "15_mem929", "16_mem930", "21_short08"];
 
-// The bindings' length of an image is the one that the second program computes from its rows.
-const _: () = assert!(tailbow::IMAGE_WORDS == IMAGE_WORDS);
+// The bindings' length of an image is the one that the second program computes from its rows, and the documents'.
+const _: () = assert!(tailbow::IMAGE_WORDS == IMAGE_WORDS && IMAGE_WORDS == 11_520);
 
 /// What is asked for.
 struct Asked {
@@ -117,6 +118,7 @@ fn night(seed: u64, rounds: u64, tally: &mut Tally) {
     named(&mut rng, tally);
     cut(&mut rng, tally);
     lent_numbers(&mut rng, tally);
+    replicas::cases(&mut rng, tally);
     turned_over(&mut rng, tally);
     for round in 0..rounds {
         generated(&mut rng, tally, round);
@@ -165,7 +167,7 @@ fn vectors(rng: &mut Rng, tally: &mut Tally) {
 /// 31 of every entry that loads, at each side of the image's length.
 fn short_buffers(tally: &mut Tally, bytes: &[u8]) {
     let words = words_of(bytes);
-    for length in [0, 1, FIRST_COUNT, IMAGE_WORDS - 1, IMAGE_WORDS, IMAGE_WORDS + 1] {
+    for length in [0, 1, FIRST_COUNT, 11_456, IMAGE_WORDS - 1, IMAGE_WORDS, IMAGE_WORDS + 1] {
         let buffer = vec![0xA5A5_A5A5; length];
         let name = format!("a buffer of {length} words");
         let short = length < IMAGE_WORDS;

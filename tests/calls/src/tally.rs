@@ -17,7 +17,7 @@ const LEAST_CALLS: usize = 200_000;
 pub enum Answer {
     Refused(u32),
     Drop(u32),
-    /// What is neither, in document 01's word.
+    /// What is neither, in the documents' word.
     Told(&'static str),
 }
 
@@ -57,11 +57,14 @@ const WORDS: &[&[u32]] = &[FRAMING, RULES, &[10, 31]];
 const BYTES: &[&[u32]] = &[FRAMING, RULES, &[9, 10, 31]];
 const FRAME: &[&[u32]] = &[&[30, 31, 33, 34, 35, 38, 39]];
 const DROPS: &[u32] = &[1, 2, 3, 4, 5, 6, 7, 8, 9, 10, 11];
+const REPLICA_DROPS: &[u32] = &[4, 7, 8, 9, 10, 11];
+/// How many replicas a frame has; "refused" is one that has none although 12 has entries.
+const REPLICAS: &[&str] = &["none", "one", "several", "all 32", "refused"];
 const RELEASE: &[&[u32]] = &[&[30, 31, 36, 37, 39]];
 const LIST: &[&[u32]] = &[&[50, 51, 52, 53, 54]];
 
-/// Every entry, with every answer that document 01 lets it give.
-const ENTRIES: [Due; 9] = [
+/// Every entry, with every answer that documents 01 and 02 let it give; and what the judged frames' replicas came to.
+const ENTRIES: [Due; 11] = [
     Due { entry: "fresh_load", refusals: &[], drops: &[], told: &["done"] },
     // An answer that a write repeats is not counted as given again.
     Due { entry: "write", refusals: WRITE, drops: &[], told: &["loaded", "more", "repeated"] },
@@ -69,6 +72,8 @@ const ENTRIES: [Due; 9] = [
     Due { entry: "load_bytes", refusals: BYTES, drops: &[], told: &["loaded"] },
     Due { entry: "fresh_ledger", refusals: &[&[30, 31]], drops: &[], told: &["done"] },
     Due { entry: "judge", refusals: FRAME, drops: DROPS, told: &["sent"] },
+    Due { entry: "replicas", refusals: &[], drops: &[], told: REPLICAS },
+    Due { entry: "replica", refusals: &[], drops: REPLICA_DROPS, told: &["sent"] },
     Due { entry: "release", refusals: RELEASE, drops: &[], told: &["done"] },
     Due {
         entry: "tile",
@@ -88,7 +93,7 @@ impl Due {
     }
 }
 
-/// Every refusal and drop of document 01: each must have been given by some entry.
+/// Every refusal and drop of documents 01 and 02: each must have been given by some entry.
 fn numbers() -> Vec<Answer> {
     let refusals = refusals().into_iter().map(Answer::Refused);
     refusals.chain((1..=11).map(Answer::Drop)).collect()
@@ -97,6 +102,7 @@ fn numbers() -> Vec<Answer> {
 #[derive(Default)]
 pub struct Tally {
     answers: BTreeMap<(Answer, &'static str), usize>,
+    calls: usize,
     passed: usize,
     failures: Vec<String>,
 }
@@ -104,8 +110,14 @@ pub struct Tally {
 impl Tally {
     /// One call of an entry, with how it compared.
     pub fn call(&mut self, entry: &'static str, answer: Answer, compared: Result<(), String>) {
-        *self.answers.entry((answer, entry)).or_default() += 1;
+        self.calls += 1;
+        self.seen(entry, answer);
         self.result(compared.map_err(|failure| format!("{entry}: {failure}")));
+    }
+
+    /// What a call has shown beside its answer.
+    pub fn seen(&mut self, what: &'static str, answer: Answer) {
+        *self.answers.entry((answer, what)).or_default() += 1;
     }
 
     pub fn result(&mut self, result: Result<(), String>) {
@@ -116,7 +128,7 @@ impl Tally {
     }
 
     pub fn calls(&self) -> usize {
-        self.answers.values().sum()
+        self.calls
     }
 
     pub fn failed(&self) -> usize {

@@ -1,15 +1,15 @@
-//! Both sides of each boundary that only calls can show: 30, 31, 32, 38, 39 and edited ledgers.
+//! Both sides of each boundary that only calls can show: 30, 31, 32, 38, 39, edited ledgers and images.
 
 use reference::image::{count_place, IMAGE_WORDS, MARK};
-use reference::judge::{judge, release, FrameAnswer, ReleaseAnswer};
+use reference::judge::{judge, release, ReleaseAnswer, Verdict};
 use reference::k;
 use reference::ledger::{fresh_ledger, Ledger, PortCounts, LAST_TIME};
 use reference::load::{load_bytes, load_words, write, LoadAnswer, LoadState, Phase};
 use reference::stream::{plain_stream, Lists};
-use reference::tables::{policing, Table, ROWS};
+use reference::tables::{policing, vlan_lookup, Table, ROWS};
 use reference::tile::{tile, TileAnswer};
 
-use crate::build::{open, Frame, A};
+use crate::build::{open, with_retagging, with_vlan, Frame, A};
 use crate::case::Side;
 use crate::edit::put_value;
 use crate::generate::{random_config, Profile};
@@ -29,6 +29,7 @@ pub fn run(rng: &mut Rng, tally: &mut Tally) {
     most_frames(rng, tally);
     credits(rng, tally);
     shared_entries(rng, tally);
+    replicas_vlans(rng, tally);
 }
 
 /// Counts a side and its refusal where it came out as it must.
@@ -57,11 +58,13 @@ fn fresh(image: &[u32]) -> Ledger {
     fresh_ledger(image).unwrap_or(reference::ledger::no_ledger())
 }
 
-/// The refusal number of a frame's answer, 0 for a verdict; and the ledger must be as found.
+/// The refusal number of a frame's answer, 0 for a verdict; a refused one has no replicas and leaves
+/// the ledger as found.
 fn frame_number(image: &[u32], ledger: &Ledger, port: u32, time: u64, frame: &[u8]) -> u32 {
-    match judge(image, *ledger, port, time, frame) {
-        (FrameAnswer::Refused(number), after) if after == *ledger => number,
-        (FrameAnswer::Refused(_), _) => 999,
+    let (judged, after) = judge(image, *ledger, port, time, frame);
+    match judged.verdict {
+        Verdict::Refused(number) if judged.replicas.is_empty() && after == *ledger => number,
+        Verdict::Refused(_) => 999,
         _ => 0,
     }
 }
@@ -383,11 +386,11 @@ fn most_frames(rng: &mut Rng, tally: &mut Tally) {
 /// The verdict on one frame to A on port 0, as a drop number, 0 where sent.
 fn drop_number(tally: &mut Tally, image: &[u32], ledger: &Ledger, bytes: usize) -> (u32, Ledger) {
     let frame = Frame::to(A).length(bytes).bytes();
-    let (answer, after) = judge(image, *ledger, 0, ledger.last_time, &frame);
-    let number = match answer {
-        FrameAnswer::Drop(number) => number,
-        FrameAnswer::Sent(_) => 0,
-        FrameAnswer::Refused(number) => 1000 + number,
+    let (judged, after) = judge(image, *ledger, 0, ledger.last_time, &frame);
+    let number = match judged.verdict {
+        Verdict::Drop(number) => number,
+        Verdict::Sent(_) => 0,
+        Verdict::Refused(number) => 1000 + number,
     };
     if (1..=11).contains(&number) {
         tally.drop(number);
@@ -427,5 +430,27 @@ fn shared_entries(rng: &mut Rng, tally: &mut Tally) {
         let ledger = fresh(&image);
         let (told, _) = drop_number(tally, &image, &ledger, 60);
         expect(tally, "drop 7 SHARINDX", side, told, number);
+    }
+}
+
+/// A replica's drop 4, in an edited image: 07 has its VLAN, or one that is one bit apart.
+fn replicas_vlans(rng: &mut Rng, tally: &mut Tally) {
+    let vlan = rng.between(2, 4095);
+    let port = rng.below(5) as u32;
+    let lists = with_retagging(with_vlan(open(), vlan, 31, 31, 0), 31, 1, vlan);
+    let near = vlan ^ (1 << rng.below(12));
+    for (told, side) in [(vlan, Side::Passes), (near, Side::Refused)] {
+        let mut image = loaded(&lists);
+        put_value(&mut image, vlan_lookup::VLANID, 1, told);
+        let (judged, after) = judge(&image, fresh(&image), port, 0, &Frame::to(A).bytes());
+        tally.judged(&judged);
+        let sent = matches!(judged.replicas[..], [Verdict::Sent(_)]);
+        let dropped = judged.replicas == [Verdict::Drop(4)];
+        let got = (sent, dropped, after.units[0], after.ports[port as usize].frames);
+        let expected = match side {
+            Side::Passes => (true, false, 98, 1),
+            Side::Refused => (false, true, 99, 1),
+        };
+        expect(tally, "replica drop 4 VLAN", side, got, expected);
     }
 }

@@ -6,7 +6,7 @@ use reference::stream::{bytes_of, Block, Lists, DEVICE_ID};
 use reference::tables::{address_lookup, forwarding_parameters, mac_configuration, policing};
 use reference::tables::{Table, IDS_OF_TABLE_2, ROWS};
 
-use crate::build::{open, refusal_of_id, with, with_vlan, A, B};
+use crate::build::{open, refusal_of_id, with, with_retagging, with_vlan, A, B};
 use crate::case::Case;
 use crate::damage::{blocks_in, flip, rearranged};
 use crate::generate::{random_config, Profile};
@@ -197,6 +197,15 @@ fn later_rules(rng: &mut Rng) -> Vec<Case> {
     let apart = two_indexes(index, other);
     let equal = two_indexes(index, index);
     cases.extend(rule_pair(rng, 25, "25 two INDEXes", &apart, &equal));
+    // 28: VLANs that are there, and one bit apart from all that are; whatever the ports.
+    let ports = rng.below(32);
+    let known = with_vlan(open(), vlan, 31, 31, 0);
+    let there = with_retagging(known.clone(), ports, vlan, 1);
+    let missing = with_retagging(known.clone(), ports, absent, 1);
+    cases.extend(rule_pair(rng, 28, "28 VLAN_ING", &there, &missing));
+    let there = with_retagging(known.clone(), ports, 1, vlan);
+    let missing = with_retagging(known, ports, 1, absent);
+    cases.extend(rule_pair(rng, 28, "28 VLAN_EGR", &there, &missing));
     cases
 }
 

@@ -4,7 +4,7 @@ use reference::k;
 use reference::list::HEAD;
 use reference::stream::Lists;
 use reference::tables::{address_lookup, forwarding_parameters, lookup_parameters, vlan_lookup};
-use reference::tables::{Field, Table, IDS_OF_TABLE_2};
+use reference::tables::{retagging, Field, Table, IDS_OF_TABLE_2};
 
 /// Addresses that frames and tables have in common.
 pub const A: u64 = 0x0200_0000_000A;
@@ -145,6 +145,16 @@ pub fn with_vlan(lists: Lists, vlan: u64, members: u64, broadcast: u64, tags: u6
     lists.put(vlan_lookup::VMEMB_PORT, number, members);
     lists.put(vlan_lookup::VLAN_BC, number, broadcast);
     lists.put(vlan_lookup::TAG_PORT, number, tags);
+    lists
+}
+
+/// One more retagging entry: ports, the frame's VLAN, the replica's.
+pub fn with_retagging(lists: Lists, ing_port: u64, vlan_ing: u64, vlan_egr: u64) -> Lists {
+    let mut lists = lists;
+    let number = lists.push_zero(Table::Retagging);
+    lists.put(retagging::ING_PORT, number, ing_port);
+    lists.put(retagging::VLAN_ING, number, vlan_ing);
+    lists.put(retagging::VLAN_EGR, number, vlan_egr);
     lists
 }
 

@@ -104,7 +104,11 @@ impl Case {
 
     /// What the reference prints, or how that differs from what is expected.
     pub(crate) fn run(&self) -> Result<String, String> {
-        let output = output_for(&self.stream, &self.list);
+        self.held_to(output_for(&self.stream, &self.list))
+    }
+
+    /// An output, or how it differs from what is expected.
+    pub(crate) fn held_to(&self, output: String) -> Result<String, String> {
         let expected = match &self.expect {
             Expect::Anything => return Ok(output),
             Expect::Loaded if output.starts_with("config loaded\n") => return Ok(output),

@@ -1,11 +1,12 @@
 //! `cases check`: runs everything through the reference and says what was hit and what failed.
 
 use crate::case::Case;
+use crate::named_calls::{self, CallCase};
 use crate::rng::Rng;
 use crate::rules::RULES;
 use crate::tally::Tally;
-use crate::{boundaries, boundary_calls, generate, named_calls, named_frames, named_program};
-use crate::{fixed, named_streams, properties};
+use crate::{boundaries, boundary_calls, fixed, generate, named_frames, named_program};
+use crate::{named_replica_calls, named_replicas, named_retagging, named_streams, properties};
 
 /// Named cases, fixed damage, and so many seeded rounds; true where nothing is missing or wrong.
 pub fn check(seed: u64, rounds: usize) -> bool {
@@ -14,14 +15,11 @@ pub fn check(seed: u64, rounds: usize) -> bool {
     let named = named();
     named.iter().for_each(|case| tally.run(case));
     fixed::cases().iter().for_each(|case| tally.run(case));
-    for (name, clause, run) in named_calls::CASES {
+    let calls = named_of_calls();
+    for (name, clause, run) in &calls {
         tally.result(run().map_err(|failure| format!("{name} ({clause}): {failure}")));
     }
-    println!(
-        "{} named cases, {} of them calls",
-        named.len() + named_calls::CASES.len(),
-        named_calls::CASES.len()
-    );
+    println!("{} named cases, {} of them calls", named.len() + calls.len(), calls.len());
     let mut rng = Rng::new(seed);
     for round in 0..rounds {
         properties::run(&mut rng, &mut tally);
@@ -40,7 +38,14 @@ pub fn named() -> Vec<Case> {
     let mut cases = named_program::cases();
     cases.extend(named_streams::cases());
     cases.extend(named_frames::cases());
+    cases.extend(named_retagging::cases());
+    cases.extend(named_replicas::cases());
     cases
+}
+
+/// Every named case that is calls.
+fn named_of_calls() -> Vec<CallCase> {
+    [&named_calls::CASES[..], named_replica_calls::CASES].concat()
 }
 
 /// A generated stream and list: any answer, the same from both programs.
@@ -72,7 +77,7 @@ fn finish(tally: Tally) -> bool {
 mod tests {
     use super::*;
     use crate::rules::refusals;
-    use crate::tally::boundaries;
+    use crate::tally::{boundaries, HOW_MANY, REPLICA_DROPS};
 
     #[test]
     fn named_cases_hold() {
@@ -81,15 +86,26 @@ mod tests {
                 panic!("{failure}");
             }
         }
-        for (name, clause, run) in named_calls::CASES {
+        for (name, clause, run) in named_of_calls() {
             assert_eq!(run(), Ok(()), "{name} ({clause})");
         }
     }
 
     #[test]
     fn what_is_not_hit_is_told() {
-        // Every refusal, 11 drops, two sides of each boundary.
+        // Every refusal, 11 drops, two sides of each boundary; of replicas the drops, the sent and how many.
         let missed = Tally::default().missed();
-        assert_eq!(missed.len(), refusals().len() + 11 + 2 * boundaries().len());
+        let of_replicas = REPLICA_DROPS.len() + 1 + HOW_MANY.len();
+        let expected = refusals().len() + 11 + 2 * boundaries().len() + of_replicas;
+        assert_eq!(missed.len(), expected);
+    }
+
+    /// Without the named cases: what is generated has replicas of every kind that a load allows.
+    #[test]
+    fn generated_lists_have_replicas() {
+        let mut rng = Rng::new(12);
+        let mut tally = Tally::default();
+        (0..200).for_each(|number| tally.run(&generated(&mut rng, number)));
+        assert_eq!(tally.missed_replicas(&REPLICA_DROPS[1..]), [""; 0]);
     }
 }

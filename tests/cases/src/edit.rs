@@ -3,14 +3,14 @@
 use reference::image::{count, count_place, start_of, FIRST_COUNT, IMAGE_WORDS, MARK};
 use reference::ledger::{most_credit, most_units, Ledger, LAST_TIME};
 use reference::load::{LoadAnswer, LoadState, Phase};
-use reference::tables::{policing, put_field, vlan_lookup, Field, Table, ROWS};
+use reference::tables::{policing, put_field, retagging, vlan_lookup, Field, Table, ROWS};
 
 use crate::rng::Rng;
 
 /// One random edit of an image, also of its length.
 pub fn edited_image(rng: &mut Rng, image: &[u32]) -> Vec<u32> {
     let mut edited = image.to_vec();
-    match rng.below(8) {
+    match rng.below(10) {
         0 => edited[MARK] = rng.pick(&[0, 2, 0x0100_0000, u32::MAX]),
         1 => {
             let row = &ROWS[rng.place(ROWS.len())];
@@ -21,7 +21,10 @@ pub fn edited_image(rng: &mut Rng, image: &[u32]) -> Vec<u32> {
         3 => edited.extend([0xDEAD_BEEF, 0]),
         4 => put_shared(rng, &mut edited),
         5 => put_twin_vlan(rng, &mut edited),
-        6 => {
+        6 => put_retagging(rng, &mut edited),
+        // No VLAN that frames and tables have: what was there is gone.
+        7 => put_value(&mut edited, vlan_lookup::VLANID, rng.place(4), 9),
+        8 => {
             let place = rng.place(FIRST_COUNT);
             edited[place] = rng.word();
         }
@@ -53,6 +56,17 @@ fn put_twin_vlan(rng: &mut Rng, image: &mut [u32]) {
     put_value(image, vlan_lookup::VLANID, number, vlan);
     let entries = count(image, Table::VlanLookup) as u32;
     image[count_place(Table::VlanLookup)] = entries.max(4);
+}
+
+/// An entry of 12 on any VLANs, there or not, and a count that reads it.
+fn put_retagging(rng: &mut Rng, image: &mut [u32]) {
+    let number = rng.place(Table::Retagging.most());
+    let (ports, vlans) = (rng.below(32), &crate::generate::VLANS);
+    put_value(image, retagging::ING_PORT, number, ports);
+    put_value(image, retagging::VLAN_ING, number, rng.pick(vlans));
+    put_value(image, retagging::VLAN_EGR, number, rng.pick(vlans));
+    let place = count_place(Table::Retagging);
+    image[place] = image[place].max(number as u32 + 1);
 }
 
 /// One random edit of a ledger, at and around the bounds of refusal 39. The image is a loaded one.
@@ -116,7 +130,7 @@ pub(crate) fn edited_state(rng: &mut Rng, state: &LoadState) -> LoadState {
         5 => edited.header = [rng.word(), rng.word()],
         6 => edited.begun = !edited.begun,
         _ => {
-            let number = rng.pick(&[1, 7, 8, 20, 25]);
+            let number = rng.pick(&[1, 7, 8, 20, 25, 28]);
             edited.answer =
                 rng.pick(&[None, Some(LoadAnswer::Loaded), Some(LoadAnswer::Refused(number))]);
         }

@@ -65,9 +65,9 @@ mod tests {
 
     /// A pin: the longest stream that can load, as the decisions count it.
     #[test]
-    fn the_longest_stream_has_32182_words() {
+    fn the_longest_stream_has_32374_words() {
         let lists = random_config(&mut Rng::new(1), Profile::Full);
-        assert_eq!(one_entry_a_block(&lists).len(), 32_182);
+        assert_eq!(one_entry_a_block(&lists).len(), 32_374);
     }
 
     #[test]

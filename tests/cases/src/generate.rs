@@ -3,7 +3,7 @@
 use reference::k;
 use reference::stream::{bytes_of, plain_stream, Lists};
 use reference::tables::{address_lookup, forwarding, forwarding_parameters, lookup_parameters};
-use reference::tables::{mac_configuration, policing, vlan_lookup, Table, ROWS};
+use reference::tables::{mac_configuration, policing, retagging, vlan_lookup, Table, ROWS};
 
 use crate::build::{Frame, List, A, B, BROADCAST, C};
 use crate::damage::{flip, rearranged, reordered};
@@ -81,8 +81,8 @@ fn valid(rng: &mut Rng, addresses: usize, policing_entries: usize, vlans: usize)
             Table::L2AddressLookup => addresses,
             Table::L2Policing => policing_entries,
             Table::VlanLookup => vlans,
-            // It may be absent.
-            Table::L2LookupParameters => rng.place(2),
+            // They may be absent.
+            Table::L2LookupParameters | Table::Retagging => rng.place(row.most + 1),
             _ => row.most,
         };
         push_any(rng, &mut lists, row.table, entries);
@@ -91,7 +91,7 @@ fn valid(rng: &mut Rng, addresses: usize, policing_entries: usize, vlans: usize)
     lists
 }
 
-/// Different VLANIDs and INDEXes, ports' VLANs and SHARINDX that exist, 929 units at most.
+/// Different VLANIDs and INDEXes, VLANs and SHARINDX that exist, 929 units at most.
 fn mend(rng: &mut Rng, lists: &mut Lists) {
     let vlans = different(rng, lists.of(Table::VlanLookup).len(), 4096);
     for (number, &vlan) in vlans.iter().enumerate() {
@@ -100,6 +100,9 @@ fn mend(rng: &mut Rng, lists: &mut Lists) {
     for port in 0..5 {
         let vlan = rng.pick(&vlans);
         lists.put(mac_configuration::VLANID, port, vlan);
+    }
+    for number in 0..lists.of(Table::Retagging).len() {
+        put_known_vlans(rng, lists, number);
     }
     let indexes = different(rng, lists.of(Table::L2AddressLookup).len(), 1024);
     for (number, index) in indexes.into_iter().enumerate() {
@@ -116,6 +119,16 @@ fn mend(rng: &mut Rng, lists: &mut Lists) {
     }
 }
 
+/// VLANs that exist in a retagging entry: in half of them one that untagged frames of some port have.
+fn put_known_vlans(rng: &mut Rng, lists: &mut Lists, number: usize) {
+    let mut any = || lists.get(vlan_lookup::VLANID, rng.place(lists.of(Table::VlanLookup).len()));
+    let (ingress, egress) = (any(), any());
+    let of_port = lists.get(mac_configuration::VLANID, rng.place(5));
+    let ingress = if rng.once_in(2) { of_port } else { ingress };
+    lists.put(retagging::VLAN_ING, number, ingress);
+    lists.put(retagging::VLAN_EGR, number, egress);
+}
+
 /// So many different numbers below a limit.
 fn different(rng: &mut Rng, many: usize, limit: u64) -> Vec<u64> {
     let mut numbers: Vec<u64> = (0..limit).collect();
@@ -124,7 +137,7 @@ fn different(rng: &mut Rng, many: usize, limit: u64) -> Vec<u64> {
     numbers
 }
 
-/// K with more VLANs and addresses, tight meters and partitions, some ports closed.
+/// K with more VLANs and addresses, tight meters and partitions, some ports closed; mostly retagging.
 fn near(rng: &mut Rng) -> Lists {
     let mut lists = k::lists();
     for vlan in VLANS.iter().skip(1) {
@@ -152,6 +165,7 @@ fn near(rng: &mut Rng) -> Lists {
     for port in 0..5 {
         near_port(rng, &mut lists, port);
     }
+    near_retagging(rng, &mut lists);
     for partition in 0..8 {
         let units = rng.pick(&[0, 1, 2, 3, 50]);
         lists.put(forwarding_parameters::part_spc(partition), 0, units);
@@ -238,6 +252,21 @@ fn near_port(rng: &mut Rng, lists: &mut Lists, port: usize) {
     }
 }
 
+/// Mostly a few entries, now and then none or all, with any bits where nothing is read.
+fn near_retagging(rng: &mut Rng, lists: &mut Lists) {
+    let entries = match rng.below(16) {
+        0..=2 => 0,
+        3 => Table::Retagging.most(),
+        _ => rng.between(1, 6) as usize,
+    };
+    push_any(rng, lists, Table::Retagging, entries);
+    for number in 0..entries {
+        put_known_vlans(rng, lists, number);
+        let ports = near_mask(rng);
+        lists.put(retagging::ING_PORT, number, ports);
+    }
+}
+
 /// Any tables of any size within their limits, sometimes one entry above.
 fn wild(rng: &mut Rng) -> Lists {
     let mut lists = Lists::default();
@@ -264,11 +293,7 @@ fn break_rule(rng: &mut Rng, lists: &mut Lists, rule: u32) {
             list.insert(place, twin);
         }
         22 => {
-            let used: Vec<u64> = (0..lists.of(Table::VlanLookup).len())
-                .map(|number| lists.get(vlan_lookup::VLANID, number))
-                .collect();
-            let absent = (0..4096).filter(|vlan| !used.contains(vlan)).collect::<Vec<u64>>();
-            let vlan = rng.pick(&absent);
+            let vlan = absent_vlan(rng, lists);
             lists.put(mac_configuration::VLANID, rng.place(5), vlan);
         }
         23 => {
@@ -294,8 +319,26 @@ fn break_rule(rng: &mut Rng, lists: &mut Lists, rule: u32) {
             let index = lists.get(address_lookup::INDEX, rng.place(last));
             lists.put(address_lookup::INDEX, last, index);
         }
+        28 => {
+            if lists.of(Table::Retagging).is_empty() {
+                push_any(rng, lists, Table::Retagging, 1);
+                put_known_vlans(rng, lists, 0);
+            }
+            let vlan = absent_vlan(rng, lists);
+            let field = rng.pick(&[retagging::VLAN_ING, retagging::VLAN_EGR]);
+            lists.put(field, rng.place(lists.of(Table::Retagging).len()), vlan);
+        }
         _ => unreachable!("nothing here breaks rule {rule}"),
     }
+}
+
+/// A VLAN that has no entry.
+fn absent_vlan(rng: &mut Rng, lists: &Lists) -> u64 {
+    let used: Vec<u64> = (0..lists.of(Table::VlanLookup).len())
+        .map(|number| lists.get(vlan_lookup::VLANID, number))
+        .collect();
+    let absent = (0..4096).filter(|vlan| !used.contains(vlan)).collect::<Vec<u64>>();
+    rng.pick(&absent)
 }
 
 /// One clause of rule 20.

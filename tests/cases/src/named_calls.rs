@@ -2,7 +2,7 @@
 //! Each gives Ok, or says what came out otherwise than its clause has it.
 
 use reference::image::{count_place, make_zero, start_of, IMAGE_WORDS, MARK};
-use reference::judge::{judge, release, FrameAnswer, ReleaseAnswer};
+use reference::judge::{judge, release, ReleaseAnswer, Verdict};
 use reference::k;
 use reference::ledger::{fresh_ledger, no_ledger, Ledger, METERS};
 use reference::load::{load_bytes, load_words, write, LoadAnswer, LoadState};
@@ -14,7 +14,7 @@ use reference::tile::{tile, TileAnswer};
 use crate::build::{open, with_address, with_vlan, Address, Frame, A, B, C};
 use crate::edit::put_value;
 
-type CallCase = (&'static str, &'static str, fn() -> Result<(), String>);
+pub type CallCase = (&'static str, &'static str, fn() -> Result<(), String>);
 
 const WRITES: &str = "decisions, Writes and the load state";
 const FRAMES: &str = "decisions, Frames";
@@ -253,13 +253,16 @@ fn refusals_9_and_31_leave_all() -> Result<(), String> {
 
 /// The pin of all positions, the only one: everywhere else they follow from the rows.
 /// By hand: 05 at 0, 06 at 3072, 07 at 3162, 08 at 11354, 09 at 11380, 0D at 11415, 0E at 11416,
-/// 11 at 11419, 4E at 11429; counts from 11430, mark at 11439, zeros to 11455.
+/// 11 at 11419, 4E at 11429, 12 at 11430; counts from 11494, mark at 11504, zeros to 11519.
 fn layout_of_the_image() -> Result<(), String> {
     let mut lists = with_address(open(), address(A, 4, 9));
     lists.push_zero(Table::L2LookupParameters);
     lists.of_mut(Table::L2LookupParameters)[0][0] = 0x1111_1111;
     lists.of_mut(Table::GeneralParameters)[0][9] = 0x2222_2222;
     lists.of_mut(Table::XmiiModeParameters)[0][0] = 0x3333_3333;
+    // VLAN 1 for VLAN 1, without the bits that are not read and with them: 63:59 and 29:0.
+    let retagging = [vec![0x4000_0000, 0x0000_0400], vec![0x7FFF_FFFF, 0xF800_0400]];
+    lists.of_mut(Table::Retagging).extend(retagging);
     let image = loaded(&lists);
     let expected = [
         // INDEX 9 in bits 29:20, DESTPORTS 4 has its bit 2 at bit 33.
@@ -275,14 +278,19 @@ fn layout_of_the_image() -> Result<(), String> {
         (11416, 100 << 13),
         (11428, 0x2222_2222),
         (11429, 0x3333_3333),
+        (11430, 0x4000_0000),
+        (11431, 0x0000_0400),
+        (11432, 0x7FFF_FFFF),
+        (11433, 0xF800_0400),
+        (11434, 0),
     ];
     for (place, word) in expected {
         same(&format!("word {place}"), image[place], word)?;
     }
-    let counts = [1, 45, 1, 13, 5, 1, 1, 1, 1];
-    same("counts", &image[11430..11439], &counts)?;
-    same("mark", image[11439], 1)?;
-    same("zeros", &image[11440..], &[0; 16])
+    let counts = [1, 45, 1, 13, 5, 1, 1, 1, 1, 2];
+    same("counts", &image[11494..11504], &counts)?;
+    same("mark", image[11504], 1)?;
+    same("zeros", &image[11505..], &[0; 15])
 }
 
 fn address(address: u64, ports: u64, index: u64) -> Address {
@@ -295,8 +303,8 @@ fn mark_is_exactly_1() -> Result<(), String> {
     for mark in [0, 2, 3, 0x0100_0000, u32::MAX] {
         image[MARK] = mark;
         same("fresh", fresh_ledger(&image), Err(30))?;
-        let told = judge(&image, ledger, 0, 0, &[0; 60]);
-        same("frame", told, (FrameAnswer::Refused(30), ledger))?;
+        let (told, after) = judge(&image, ledger, 0, 0, &[0; 60]);
+        same("frame", (told.verdict, after), (Verdict::Refused(30), ledger))?;
         let told = release(&image, ledger, 0);
         same("release", told, (ReleaseAnswer::Refused(30), ledger))?;
         same("tile", tile(&image, &ledger, 0), TileAnswer::NotLoaded)?;
@@ -334,9 +342,9 @@ fn rules_21_to_25_are_not_asked_again() -> Result<(), String> {
     same("units", ledger.units, [1023; 8])?;
     // Port 4's VLAN has no entry now, and its broadcasts' SHARINDX none either.
     let told = judge(&image, ledger, 4, 0, &Frame::to(A).bytes()).0;
-    same("VLAN 99", told, FrameAnswer::Drop(4))?;
+    same("VLAN 99", told.verdict, Verdict::Drop(4))?;
     let told = judge(&image, ledger, 4, 0, &Frame::broadcast().tagged(0, 1).bytes()).0;
-    same("SHARINDX 63", told, FrameAnswer::Drop(7))
+    same("SHARINDX 63", told.verdict, Verdict::Drop(7))
 }
 
 /// Drops 1, 2, 3, 4, 5, 6, 7, 8: meters and units are as before, the last time and tile are not.
@@ -364,7 +372,7 @@ fn early_drops_leave_the_meters() -> Result<(), String> {
     ];
     for (drop, port, frame) in asked {
         let (told, after) = judge(&image, ledger, port, 77, &frame.bytes());
-        same("drop", told, FrameAnswer::Drop(drop))?;
+        same("drop", told.verdict, Verdict::Drop(drop))?;
         same("meters", after.meters, ledger.meters)?;
         same("units", after.units, ledger.units)?;
         same("last time", after.last_time, 77)?;
@@ -377,10 +385,10 @@ fn early_drops_leave_the_meters() -> Result<(), String> {
 /// The ports a frame is sent to, or the drop as a negative number.
 fn ports_or_drop(image: &[u32], frame: &Frame) -> Result<i64, String> {
     let ledger = fresh_ledger(image).map_err(|number| format!("refused {number}"))?;
-    match judge(image, ledger, 0, 0, &frame.bytes()).0 {
-        FrameAnswer::Sent(sent) => Ok(i64::from(sent.ports)),
-        FrameAnswer::Drop(drop) => Ok(-i64::from(drop)),
-        FrameAnswer::Refused(number) => Err(format!("refused {number}")),
+    match judge(image, ledger, 0, 0, &frame.bytes()).0.verdict {
+        Verdict::Sent(sent) => Ok(i64::from(sent.ports)),
+        Verdict::Drop(drop) => Ok(-i64::from(drop)),
+        Verdict::Refused(number) => Err(format!("refused {number}")),
     }
 }
 
@@ -443,10 +451,10 @@ fn order_of_frame_refusals() -> Result<(), String> {
     let long = vec![0; 4097];
     let short = image[..IMAGE_WORDS - 1].to_vec();
     let ask = |image: &[u32], ledger: Ledger, port, time, frame: &[u8]| {
-        let (answer, after) = judge(image, ledger, port, time, frame);
-        (answer, after == ledger)
+        let (judged, after) = judge(image, ledger, port, time, frame);
+        (judged.verdict, after == ledger)
     };
-    let told = |number| (FrameAnswer::Refused(number), true);
+    let told = |number| (Verdict::Refused(number), true);
     same("31", ask(&short, ledger, 5, 9, &long), told(31))?;
     image[MARK] = 0;
     same("30", ask(&image, ledger, 5, 9, &long), told(30))?;
@@ -458,7 +466,7 @@ fn order_of_frame_refusals() -> Result<(), String> {
     same("35", ask(&image, ledger, 0, 10, &long), told(35))?;
     same("38", ask(&image, ledger, 0, 10, &[]), told(38))?;
     // Another port's count does not refuse.
-    same("port 1", ask(&image, ledger, 1, 10, &[]), (FrameAnswer::Drop(1), false))
+    same("port 1", ask(&image, ledger, 1, 10, &[]), (Verdict::Drop(1), false))
 }
 
 /// 31, 33, not-loaded, 39: with a bad ledger and port 9 a frame gets 39 and a tile 33.
@@ -470,7 +478,7 @@ fn order_of_tile_answers() -> Result<(), String> {
     same("31", tile(&short, &ledger, 9), TileAnswer::Refused(31))?;
     same("33", tile(&image, &ledger, 9), TileAnswer::Refused(33))?;
     let frame = judge(&image, ledger, 9, 0, &[0; 60]).0;
-    same("a frame's 39", frame, FrameAnswer::Refused(39))?;
+    same("a frame's 39", frame.verdict, Verdict::Refused(39))?;
     image[MARK] = 0;
     same("33 before not-loaded", tile(&image, &ledger, 5), TileAnswer::Refused(33))?;
     same("not-loaded", tile(&image, &ledger, 4), TileAnswer::NotLoaded)?;
@@ -488,7 +496,7 @@ fn no_ledger_is_39() -> Result<(), String> {
     }
     for image in [loaded(&open()), loaded(&zero)] {
         let told = judge(&image, no_ledger(), 0, 1 << 48, &[0; 60]).0;
-        same("frame", told, FrameAnswer::Refused(39))?;
+        same("frame", told.verdict, Verdict::Refused(39))?;
         let told = release(&image, no_ledger(), 0).0;
         same("release", told, ReleaseAnswer::Refused(39))?;
         same("tile", tile(&image, &no_ledger(), 0), TileAnswer::Refused(39))?;

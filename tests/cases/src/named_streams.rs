@@ -326,6 +326,10 @@ fn breach(lists: &mut Lists, rule: u32) {
                 lists.put(address_lookup::INDEX, number, 7);
             }
         }
+        // All zero names VLAN 0, and K has VLAN 1 alone.
+        28 => {
+            lists.push_zero(Table::Retagging);
+        }
         _ => unreachable!("nothing here breaks rule {rule}"),
     }
 }

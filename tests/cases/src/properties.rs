@@ -1,7 +1,7 @@
 //! Seeded rounds of what must hold of any stream, image, ledger, state and list.
 
 use reference::image::{self, too_short, IMAGE_WORDS, MARK};
-use reference::judge::{judge, release, FrameAnswer, ReleaseAnswer};
+use reference::judge::{judge, release, Judged, ReleaseAnswer, Verdict};
 use reference::ledger::{fresh_ledger, out_of_range, Ledger};
 use reference::load::{load_bytes, load_words, write, LoadAnswer, LoadState};
 use reference::stream::{bytes_of, words_of, Lists};
@@ -142,41 +142,57 @@ fn frames(rng: &mut Rng, tally: &mut Tally, lists: &Lists) -> Result<(), String>
         let port = rng.below(5) as usize;
         time = later(rng, time);
         let frame = random_frame(rng);
-        let (answer, after) = judge(&image, ledger, port as u32, time, &frame);
+        let (judged, after) = judge(&image, ledger, port as u32, time, &frame);
         same("last time", after.last_time, time)?;
         let length = frame.len() as u128 + 4;
         seen[port][0] += 1;
         seen[port][2] += length;
-        match answer {
-            FrameAnswer::Drop(number) => {
-                tally.drop(number);
+        tally.judged(&judged);
+        match judged.verdict {
+            Verdict::Drop(_) => {
                 seen[port][1] += 1;
                 seen[port][3] += length;
             }
-            FrameAnswer::Sent(_) => tally.sent += 1,
-            FrameAnswer::Refused(number) => return Err(format!("refused {number}")),
+            Verdict::Sent(_) => {}
+            Verdict::Refused(number) => return Err(format!("refused {number}")),
         }
-        what_a_verdict_moves(answer, &ledger, &after)?;
+        what_a_frame_moves(&judged, &ledger, &after)?;
         ledger = after;
         same("in range", out_of_range(&image, &ledger), false)?;
     }
     compare_tiles(&image, &ledger, &seen)
 }
 
-/// Drops 1 to 8 leave the meters, later verdicts move one; a sent frame alone takes a unit.
-fn what_a_verdict_moves(
-    answer: FrameAnswer,
-    before: &Ledger,
-    after: &Ledger,
-) -> Result<(), String> {
+/// Drops 1 to 8 leave the meters, later verdicts move one, and so do replicas: it is the frame's. What
+/// is sent, frame or replica, takes a unit.
+fn what_a_frame_moves(judged: &Judged, before: &Ledger, after: &Ledger) -> Result<(), String> {
     let moved = (0..45).filter(|&number| before.meters[number] != after.meters[number]).count();
     let taken = before.units.iter().sum::<u64>() - after.units.iter().sum::<u64>();
-    match answer {
-        FrameAnswer::Drop(1..=8) => same("meters moved", moved, 0)?,
+    match judged.verdict {
+        Verdict::Drop(1..=8) => same("meters moved", moved, 0)?,
         _ => same("at most one meter moved", moved <= 1, true)?,
     }
-    let sent = matches!(answer, FrameAnswer::Sent(_));
-    same("units taken", taken, u64::from(sent))
+    let verdicts = judged.replicas.iter().chain([&judged.verdict]);
+    let sent = verdicts.filter(|verdict| matches!(verdict, Verdict::Sent(_))).count();
+    same("units taken", taken, sent as u64)?;
+    which_replicas(judged)
+}
+
+/// None where the frame is not past drop 6; else, at 7, 8 and 9, each has the frame's own number. (4 is
+/// for edited images.)
+fn which_replicas(judged: &Judged) -> Result<(), String> {
+    match judged.verdict {
+        Verdict::Refused(_) | Verdict::Drop(1..=6) => same("replicas", judged.replicas.len(), 0),
+        Verdict::Drop(7..=9) => {
+            let alike = judged.replicas.iter().all(|replica| *replica == judged.verdict);
+            same("replicas alike", alike, true)
+        }
+        _ => {
+            let from_9 =
+                |replica: &Verdict| matches!(replica, Verdict::Drop(9..=11) | Verdict::Sent(_));
+            same("replicas at 9, 10, 11 or sent", judged.replicas.iter().all(from_9), true)
+        }
+    }
 }
 
 /// Frames, drops, octets and dropped octets as they were seen, divided in whole numbers.
@@ -209,14 +225,10 @@ fn edited_calls(rng: &mut Rng, tally: &mut Tally, lists: &Lists) -> Result<(), S
         }
         let port = rng.below(6) as u32;
         let time = later(rng, ledger.last_time & ((1 << 48) - 1));
-        let (answer, after) = judge(&image, ledger, port, time, &random_frame(rng));
-        match answer {
-            FrameAnswer::Refused(number) => {
-                tally.refusal(number);
-                same("refused frame", after, ledger)?;
-            }
-            FrameAnswer::Drop(number) => tally.drop(number),
-            FrameAnswer::Sent(_) => tally.sent += 1,
+        let (judged, after) = judge(&image, ledger, port, time, &random_frame(rng));
+        tally.judged(&judged);
+        if let Verdict::Refused(_) = judged.verdict {
+            same("refused frame", (judged.replicas.len(), after), (0, ledger))?;
         }
         let (answer, after) = release(&image, ledger, rng.below(9) as u32);
         if let ReleaseAnswer::Refused(number) = answer {

@@ -1,10 +1,11 @@
 //! What the cases know of refusals, by hand: the loading rules' numbers, the entries that a table
-//! needs, and every number there is. Document 01, "Numbers for a refused load" and later.
+//! needs, and every number there is. Document 01, "Numbers for a refused load" and later; document 02,
+//! request 2.
 
 use reference::tables::Table;
 
 /// The rules' numbers, in the order in which they are asked.
-pub const RULES: &[u32] = &[20, 21, 22, 23, 24, 25];
+pub const RULES: &[u32] = &[20, 21, 22, 23, 24, 25, 28];
 
 /// Rule 20: the tables that must have entries, and how many at least. Any other may be absent.
 pub(crate) const NEEDED: &[(Table, usize)] = &[

@@ -1,7 +1,9 @@
-//! How often each refusal, each drop and each side of each boundary was hit, and what failed.
+//! How often each refusal, each drop, each side of each boundary and each kind of replica was hit, and
+//! what failed.
 
 use std::collections::BTreeMap;
 
+use reference::judge::{Judged, Verdict};
 use reference::tables::ROWS;
 
 use crate::case::{Case, Side};
@@ -26,6 +28,8 @@ const BOUNDARIES: &[&str] = &[
     "23 SHARINDX",
     "24 sum of PART_SPC",
     "25 two INDEXes",
+    "28 VLAN_EGR",
+    "28 VLAN_ING",
     "30 count of {row}",
     "30 mark",
     "30 write, count of {row}",
@@ -89,7 +93,20 @@ const BOUNDARIES: &[&str] = &[
     "drop 10 REACH_PORT",
     "drop 10 VMEMB_PORT",
     "drop 11 units",
+    "replica ING_PORT",
+    "replica VLAN_ING",
+    "replica drop 4 VLAN",
+    "replica drop 9 SMAX",
+    "replica drop 10 VLAN_BC",
+    "replica drop 10 VMEMB_PORT",
+    "replica drop 11 units",
 ];
+
+/// The drops that a replica can have; 4 in edited images only.
+pub const REPLICA_DROPS: [u32; 6] = [4, 7, 8, 9, 10, 11];
+
+/// How many replicas a frame past drop 6 has.
+pub const HOW_MANY: [&str; 3] = ["no replica", "one replica", "more replicas"];
 
 /// Their names, in this order.
 pub fn boundaries() -> Vec<String> {
@@ -112,8 +129,12 @@ pub struct Tally {
     refusals: BTreeMap<u32, u64>,
     drops: BTreeMap<u32, u64>,
     sides: BTreeMap<(String, Side), u64>,
+    replica_drops: BTreeMap<u32, u64>,
+    /// Frames past drop 6, by how many replicas they have.
+    with_replicas: [u64; HOW_MANY.len()],
     loaded: u64,
-    pub sent: u64,
+    sent: u64,
+    replicas_sent: u64,
     pub passed: u64,
     pub failures: Vec<String>,
 }
@@ -125,6 +146,35 @@ impl Tally {
 
     pub fn drop(&mut self, number: u32) {
         *self.drops.entry(number).or_default() += 1;
+    }
+
+    /// What a frame came to, with its replicas.
+    pub fn judged(&mut self, judged: &Judged) {
+        match judged.verdict {
+            Verdict::Refused(number) => self.refusal(number),
+            Verdict::Drop(number) => self.drop(number),
+            Verdict::Sent(_) => self.sent += 1,
+        }
+        if let Verdict::Drop(7..=11) | Verdict::Sent(_) = judged.verdict {
+            self.past_drop_6(judged.replicas.len());
+        }
+        for replica in &judged.replicas {
+            match replica {
+                Verdict::Drop(number) => self.replica_drop(*number),
+                Verdict::Sent(_) => self.replicas_sent += 1,
+                Verdict::Refused(number) => {
+                    self.failures.push(format!("a replica was refused with {number}"));
+                }
+            }
+        }
+    }
+
+    fn replica_drop(&mut self, number: u32) {
+        *self.replica_drops.entry(number).or_default() += 1;
+    }
+
+    fn past_drop_6(&mut self, replicas: usize) {
+        self.with_replicas[replicas.min(HOW_MANY.len() - 1)] += 1;
     }
 
     pub fn side(&mut self, boundary: &str, side: Side) {
@@ -154,15 +204,31 @@ impl Tally {
     }
 
     fn count_lines(&mut self, output: &str) {
+        // The replicas so far of the last frame, where that is past drop 6.
+        let mut replicas: Option<usize> = None;
         for line in output.lines() {
             let words: Vec<&str> = line.split(' ').collect();
+            let number = |text: &str| text.parse().unwrap_or(0);
+            if words[0] == "replica" {
+                replicas = replicas.map(|sofar| sofar + 1);
+            } else if let Some(replicas) = replicas.take() {
+                self.past_drop_6(replicas);
+            }
             match words[..] {
                 ["config", "loaded"] => self.loaded += 1,
-                ["config" | "list", "refused", number] | ["refused", number] => {
-                    self.refusal(number.parse().unwrap_or(0));
+                ["config" | "list", "refused", told] | ["refused", told] => {
+                    self.refusal(number(told));
                 }
-                ["frame", _, "drop", number] => self.drop(number.parse().unwrap_or(0)),
-                ["frame", _, "sent", ..] => self.sent += 1,
+                ["frame", _, "drop", told] => {
+                    self.drop(number(told));
+                    replicas = (number(told) > 6).then_some(0);
+                }
+                ["frame", _, "sent", ..] => {
+                    self.sent += 1;
+                    replicas = Some(0);
+                }
+                ["replica", _, "drop", told] => self.replica_drop(number(told)),
+                ["replica", _, "sent", ..] => self.replicas_sent += 1,
                 _ => {}
             }
         }
@@ -181,6 +247,7 @@ impl Tally {
                 missed.push(format!("drop {number} was not hit"));
             }
         }
+        missed.extend(self.missed_replicas(&REPLICA_DROPS));
         let boundaries = boundaries();
         for boundary in &boundaries {
             for side in [Side::Passes, Side::Refused] {
@@ -197,12 +264,40 @@ impl Tally {
         missed
     }
 
+    /// Of replicas: these drops, sent ones, and frames with none, one and more.
+    pub fn missed_replicas(&self, drops: &[u32]) -> Vec<String> {
+        let mut missed = Vec::new();
+        for number in drops {
+            if !self.replica_drops.contains_key(number) {
+                missed.push(format!("drop {number} of a replica was not hit"));
+            }
+        }
+        if self.replicas_sent == 0 {
+            missed.push("no replica was sent".to_string());
+        }
+        for (how_many, frames) in HOW_MANY.iter().zip(self.with_replicas) {
+            if frames == 0 {
+                missed.push(format!("no frame had {how_many}"));
+            }
+        }
+        missed
+    }
+
     fn hits(&self, boundary: &str, side: Side) -> u64 {
         self.sides.get(&(boundary.to_string(), side)).copied().unwrap_or(0)
     }
 
     pub fn print(&self) {
-        println!("loaded {}, frames sent {}", self.loaded, self.sent);
+        println!(
+            "loaded {}, frames sent {}, replicas sent {}",
+            self.loaded, self.sent, self.replicas_sent
+        );
+        for (how_many, frames) in HOW_MANY.iter().zip(self.with_replicas) {
+            println!("frames with {how_many}: {frames}");
+        }
+        for (number, hits) in &self.replica_drops {
+            println!("drop {number:2} of a replica: {hits}");
+        }
         for (number, hits) in &self.refusals {
             println!("refusal {number:2}: {hits}");
         }

@@ -1,12 +1,13 @@
-//! One frame, step by step, and a release.
-//! Document 01, "One frame, step by step": call refusals, drops 1 to 11, ports, releases.
+//! One frame with its replicas, step by step, and a release.
+//! Document 01, "One frame, step by step": call refusals, drops 1 to 11, ports, releases; document 02,
+//! request 2: replicas.
 
 use crate::image::{count, is_loaded, too_short, value};
 use crate::ledger::{
     most_units, out_of_range, Ledger, CREDIT_A_BYTE, LAST_TIME, PARTITIONS, PORTS,
 };
 use crate::tables::{address_lookup, forwarding, lookup_parameters, mac_configuration, policing};
-use crate::tables::{vlan_lookup, Table};
+use crate::tables::{retagging, vlan_lookup, Table};
 
 /// Bytes of the checksum that a frame comes without.
 const CHECKSUM_BYTES: u64 = 4;
@@ -18,12 +19,19 @@ const BROADCAST: u64 = 0xFFFF_FFFF_FFFF;
 /// Elapsed microseconds x RATE x this is credit in millionths of a bit.
 const CREDIT_A_RATE_AND_MICROSECOND: u128 = 15_625;
 
-/// What the switch does with a frame, or why it was not asked.
+/// What the switch does with a frame or a replica, or why it was not asked. No replica is refused.
 #[derive(Clone, Copy, PartialEq, Eq, Debug)]
-pub enum FrameAnswer {
+pub enum Verdict {
     Refused(u32),
     Drop(u32),
     Sent(Sent),
+}
+
+/// A frame's verdict and its replicas', in the order of their entries; a refused frame has none.
+#[derive(Clone, PartialEq, Eq, Debug)]
+pub struct Judged {
+    pub verdict: Verdict,
+    pub replicas: Vec<Verdict>,
 }
 
 /// Ports and tags are masks, port 0 the lowest bit; queues are 0 where not sent.
@@ -42,23 +50,30 @@ pub enum ReleaseAnswer {
     Released,
 }
 
-/// Judges one frame; a refused one changes nothing.
+/// Judges one frame to its end, then its replicas; a refused one changes nothing.
 pub fn judge(
     image: &[u32],
     ledger: Ledger,
     port: u32,
     time: u64,
     frame: &[u8],
-) -> (FrameAnswer, Ledger) {
+) -> (Judged, Ledger) {
     if let Some(number) = call_refusal(image, &ledger, port, time, frame) {
-        return (FrameAnswer::Refused(number), ledger);
+        return (Judged { verdict: Verdict::Refused(number), replicas: Vec::new() }, ledger);
     }
     let port = port as usize;
     let mut after = ledger;
-    let answer = verdict(image, &mut after, port, time, frame);
+    let received = receive(image, port, frame);
+    let steps = received.and_then(|original| go_on(image, &mut after, port, time, &original));
+    let verdict = verdict_of(steps);
     after.last_time = time;
-    count_frame(&mut after, port, length_of(frame), answer);
-    (answer, after)
+    count_frame(&mut after, port, length_of(frame), verdict);
+    // A frame that is past drop 6 has replicas, whatever becomes of it afterwards.
+    let replicas = match received {
+        Ok(original) => replicate(image, &mut after, port, time, &original),
+        Err(_) => Vec::new(),
+    };
+    (Judged { verdict, replicas }, after)
 }
 
 /// 31, 30, 39, 33, 34, 35, 38: the first that applies.
@@ -100,18 +115,19 @@ fn length_of(frame: &[u8]) -> u64 {
     frame.len() as u64 + CHECKSUM_BYTES
 }
 
-/// Every verdict counts in its port's tile.
-fn count_frame(ledger: &mut Ledger, port: usize, length: u64, answer: FrameAnswer) {
+/// Every frame's verdict counts in its port's tile; a replica's does not.
+fn count_frame(ledger: &mut Ledger, port: usize, length: u64, verdict: Verdict) {
     let counts = &mut ledger.ports[port];
     counts.frames += 1;
     counts.octets += length;
-    if let FrameAnswer::Drop(_) = answer {
+    if let Verdict::Drop(_) = verdict {
         counts.drops += 1;
         counts.dropped_octets += length;
     }
 }
 
-/// A frame that drops 1 to 6 have let by.
+/// A frame that drops 1 to 6 have let by, or a replica of one that drop 4 has let by.
+#[derive(Clone, Copy)]
 struct Received {
     length: u64,
     destination: u64,
@@ -120,22 +136,58 @@ struct Received {
     vlan_entry: usize,
 }
 
-/// The first drop that applies, or where the frame is sent; spends credit and takes a unit.
-fn verdict(
+/// The first drop that applied, or where it is sent.
+fn verdict_of(steps: Result<Sent, u32>) -> Verdict {
+    match steps {
+        Ok(sent) => Verdict::Sent(sent),
+        Err(drop) => Verdict::Drop(drop),
+    }
+}
+
+/// The replicas, one for each entry of 12 that matches, each on the ledger that the one before left.
+fn replicate(
     image: &[u32],
     ledger: &mut Ledger,
     port: usize,
     time: u64,
-    frame: &[u8],
-) -> FrameAnswer {
-    let steps = receive(image, port, frame).and_then(|received| {
-        let k = police(image, ledger, port, time, &received)?;
-        send(image, ledger, port, k, &received)
-    });
-    match steps {
-        Ok(sent) => FrameAnswer::Sent(sent),
-        Err(drop) => FrameAnswer::Drop(drop),
+    original: &Received,
+) -> Vec<Verdict> {
+    let mut replicas = Vec::new();
+    for number in 0..count(image, Table::Retagging) {
+        if retagging_matches(image, number, port, original.vlan) {
+            let vlan = value(image, retagging::VLAN_EGR, number);
+            let steps = replica(image, original, vlan)
+                .and_then(|replica| go_on(image, ledger, port, time, &replica));
+            replicas.push(verdict_of(steps));
+        }
     }
+    replicas
+}
+
+/// An entry of 12 names this port and this VLAN.
+fn retagging_matches(image: &[u32], number: usize, port: usize, vlan: u64) -> bool {
+    value(image, retagging::VLAN_ING, number) == vlan
+        && has_port(value(image, retagging::ING_PORT, number), port)
+}
+
+/// Drop 4: the frame on another VLAN. Nothing else of it changes, and steps 1, 2, 3, 5, 6 are not run.
+fn replica(image: &[u32], original: &Received, vlan: u64) -> Result<Received, u32> {
+    let Some(vlan_entry) = first_vlan_entry(image, vlan) else {
+        return Err(4);
+    };
+    Ok(Received { vlan, vlan_entry, ..*original })
+}
+
+/// Drops 7 to 11, of a frame or of a replica; spends credit and takes a unit.
+fn go_on(
+    image: &[u32],
+    ledger: &mut Ledger,
+    port: usize,
+    time: u64,
+    received: &Received,
+) -> Result<Sent, u32> {
+    let k = police(image, ledger, port, time, received)?;
+    send(image, ledger, port, k, received)
 }
 
 /// Drops 1 to 6.

@@ -1,5 +1,5 @@
-//! The independent second program: document 01 rendered plainly, one room a subject.
-//! Written from documents 01 and 001 and the decisions alone; slow where slow is plain.
+//! The independent second program: document 01, and request 2 of document 02, rendered plainly, one
+//! room a subject. Written from the documents and the decisions alone; slow where slow is plain.
 
 pub mod crc;
 pub mod image;

@@ -1,7 +1,8 @@
 //! The list of records: a reader that carries the list and its place, and the walk over it.
-//! Document 01, "The verdict program": refusals 50 to 54 and the printed lines.
+//! Document 01, "The verdict program": refusals 50 to 54 and the printed lines; document 02, request 2:
+//! a replica's line.
 
-use crate::judge::{judge, release, FrameAnswer, ReleaseAnswer, Sent};
+use crate::judge::{judge, release, Judged, ReleaseAnswer, Sent, Verdict};
 use crate::ledger::{Ledger, PORTS};
 use crate::tile::{tile, TileAnswer};
 
@@ -125,40 +126,54 @@ fn walk(
             Next::Refused(refusal) => return Some(refusal),
             Next::Record(record) => {
                 number += 1;
-                lines.push(run_record(image, ledger, number, record));
+                lines.extend(run_record(image, ledger, number, record));
             }
         }
     }
 }
 
-/// One record's line; the ledger is brought up to date.
-fn run_record(image: &[u32], ledger: &mut Ledger, number: usize, record: Record<'_>) -> String {
+/// One record's lines; the ledger is brought up to date.
+fn run_record(
+    image: &[u32],
+    ledger: &mut Ledger,
+    number: usize,
+    record: Record<'_>,
+) -> Vec<String> {
     match record {
         Record::Frame { port, time, bytes } => {
-            let (answer, after) = judge(image, *ledger, u32::from(port), time, bytes);
+            let (judged, after) = judge(image, *ledger, u32::from(port), time, bytes);
             *ledger = after;
-            frame_line(number, answer)
+            frame_lines(number, &judged)
         }
         Record::Release { partition } => {
             let (answer, after) = release(image, *ledger, u32::from(partition));
             *ledger = after;
-            release_line(number, answer)
+            vec![release_line(number, answer)]
         }
     }
 }
 
-fn frame_line(number: usize, answer: FrameAnswer) -> String {
-    match answer {
-        FrameAnswer::Refused(refusal) => format!("refused {refusal}"),
-        FrameAnswer::Drop(drop) => format!("frame {number} drop {drop}"),
-        FrameAnswer::Sent(sent) => sent_line(number, sent),
+/// The frame's line, and right behind it its replicas', with the same number.
+fn frame_lines(number: usize, judged: &Judged) -> Vec<String> {
+    let mut lines = vec![verdict_line("frame", number, judged.verdict)];
+    for &replica in &judged.replicas {
+        lines.push(verdict_line("replica", number, replica));
+    }
+    lines
+}
+
+fn verdict_line(what: &str, number: usize, verdict: Verdict) -> String {
+    match verdict {
+        Verdict::Refused(refusal) => format!("refused {refusal}"),
+        Verdict::Drop(drop) => format!("{what} {number} drop {drop}"),
+        Verdict::Sent(sent) => sent_line(what, number, sent),
     }
 }
 
-fn sent_line(number: usize, sent: Sent) -> String {
+fn sent_line(what: &str, number: usize, sent: Sent) -> String {
     let [a, b, c, d, e] = sent.queues;
     format!(
-        "frame {number} sent {} vlan {} prio {} tags {} queues {a} {b} {c} {d} {e}",
+        "{what} {number} sent {} vlan {} prio {} tags {} queues {a} {b} {c} {d} {e}",
         sent.ports, sent.vlan, sent.prio, sent.tags
     )
 }

@@ -1,9 +1,9 @@
 //! The loading rules, run in their order once the end block has passed.
-//! Document 01, "Numbers for a refused load", second table.
+//! Document 01, "Numbers for a refused load", second table; 28 is document 02's, request 2.
 
 use crate::image::{count, value, values};
 use crate::tables::{address_lookup, forwarding_parameters, mac_configuration, policing};
-use crate::tables::{vlan_lookup, Table};
+use crate::tables::{retagging, vlan_lookup, Table};
 
 /// The most units that the eight partitions may have together.
 const MOST_UNITS: u64 = 929;
@@ -27,6 +27,9 @@ pub fn first_broken_rule(image: &[u32]) -> Option<u32> {
     }
     if rule_25_broken(image) {
         return Some(25);
+    }
+    if rule_28_broken(image) {
+        return Some(28);
     }
     None
 }
@@ -73,6 +76,14 @@ fn rule_24_broken(image: &[u32]) -> bool {
 /// Two entries of 05 have one INDEX.
 fn rule_25_broken(image: &[u32]) -> bool {
     two_are_equal(&values(image, address_lookup::INDEX))
+}
+
+/// Some entry of 12, whatever its ING_PORT, has a VLAN_ING or a VLAN_EGR that no entry of 07 has.
+fn rule_28_broken(image: &[u32]) -> bool {
+    let vlans = values(image, vlan_lookup::VLANID);
+    let mut named = values(image, retagging::VLAN_ING);
+    named.extend(values(image, retagging::VLAN_EGR));
+    named.iter().any(|vlan| !vlans.contains(vlan))
 }
 
 /// Every pair is compared.

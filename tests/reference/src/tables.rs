@@ -1,5 +1,6 @@
 //! The tables that are carried, their sizes, and the fields that are used, with the manual's bits.
-//! Document 01, "The stream": the table of IDs and "Fields used"; 001, tables 2 and 10 to 24.
+//! Document 01, "The stream": the table of IDs and "Fields used"; document 02, request 2; 001, tables
+//! 2 and 10 to 24.
 
 /// A table that is carried.
 #[derive(Clone, Copy, PartialEq, Eq, Debug)]
@@ -13,6 +14,7 @@ pub enum Table {
     L2ForwardingParameters,
     GeneralParameters,
     XmiiModeParameters,
+    Retagging,
 }
 
 /// One row of document 01's table of IDs.
@@ -40,6 +42,7 @@ pub const ROWS: &[Row] = &[
     row(0x0E, Table::L2ForwardingParameters, 3, 1),
     row(0x11, Table::GeneralParameters, 10, 1),
     row(0x4E, Table::XmiiModeParameters, 1, 1),
+    row(0x12, Table::Retagging, 2, 32),
 ];
 
 /// The IDs of table 2 of document 001.
@@ -171,6 +174,14 @@ pub mod forwarding_parameters {
     }
 }
 
+/// Table 23: Retagging.
+pub mod retagging {
+    use super::*;
+    pub const ING_PORT: Field = field(Table::Retagging, 58, 54);
+    pub const VLAN_ING: Field = field(Table::Retagging, 53, 42);
+    pub const VLAN_EGR: Field = field(Table::Retagging, 41, 30);
+}
+
 /// Bit number `bit` of an entry: word 0 holds bits 31 to 0.
 fn bit_of(entry: &[u32], bit: usize) -> u64 {
     u64::from((entry[bit / 32] >> (bit % 32)) & 1)
@@ -232,6 +243,38 @@ mod tests {
         assert_eq!(read_field(&entry, address_lookup::DESTPORTS), 11);
         assert_eq!(read_field(&entry, address_lookup::ENFPORT), 1);
         assert_eq!(read_field(&entry, address_lookup::INDEX), 216);
+    }
+
+    /// The retagging entries whose words the decisions give: one by one, and each field at its most.
+    #[test]
+    fn retagging_entries() {
+        for (entry, expected) in [
+            ([0x8000_0000, 0x0040_0400], [1, 1, 2]),
+            ([0xC000_0000, 0x07FF_FFFF], [31, 4095, 4095]),
+        ] {
+            let fields = [retagging::ING_PORT, retagging::VLAN_ING, retagging::VLAN_EGR];
+            assert_eq!(fields.map(|field| read_field(&entry, field)), expected);
+            let mut put = [0, 0];
+            for (field, value) in fields.into_iter().zip(expected) {
+                put_field(&mut put, field, value);
+            }
+            assert_eq!(put, entry);
+        }
+    }
+
+    /// A table's number in a flat load state is its row's place; of no number above 9 is there one.
+    #[test]
+    fn the_retagging_table_is_number_9_and_the_last() {
+        assert_eq!(Table::Retagging.place(), 9);
+        assert_eq!(ROWS.len(), 10);
+    }
+
+    /// The IDs of table 2 that are 4, by hand: 12 is no longer one of them.
+    #[test]
+    fn ids_that_are_not_carried() {
+        let mut ids = IDS_OF_TABLE_2.to_vec();
+        ids.retain(|&id| Table::of_id(id).is_none());
+        assert_eq!(ids, [0x00, 0x01, 0x02, 0x03, 0x04, 0x0A, 0x0B, 0x0C, 0x0F, 0x10]);
     }
 
     /// A second row of an ID or of a table would never be found.

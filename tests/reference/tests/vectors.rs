@@ -9,7 +9,8 @@ use reference::load::{load_bytes, LoadAnswer};
 use reference::program::output_for;
 use reference::stream::{bytes_of, plain_stream};
 use reference::tables::{address_lookup, forwarding, forwarding_parameters, mac_configuration};
-use reference::tables::{lookup_parameters, policing, read_field, vlan_lookup, Field, Table, ROWS};
+use reference::tables::{lookup_parameters, policing, read_field, retagging, vlan_lookup};
+use reference::tables::{Field, Table, ROWS};
 
 fn vector(name: &str) -> Vec<u8> {
     let folder = PathBuf::from(env!("CARGO_MANIFEST_DIR")).join("../vectors");
@@ -136,6 +137,11 @@ fn fields_of(table: Table) -> Vec<(&'static str, Vec<Field>)> {
             vec![("part_spc", (0..8).map(forwarding_parameters::part_spc).collect())]
         }
         Table::GeneralParameters | Table::XmiiModeParameters => vec![],
+        Table::Retagging => vec![
+            ("ing_port", vec![retagging::ING_PORT]),
+            ("vlan_ing", vec![retagging::VLAN_ING]),
+            ("vlan_egr", vec![retagging::VLAN_EGR]),
+        ],
     }
 }
 

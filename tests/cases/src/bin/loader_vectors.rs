@@ -1,8 +1,9 @@
 //! Writes what the gate program `crates/loader_vectors` is run on and what it must print: streams,
 //! and what the second program makes of each. Nothing of the proved loader is asked.
 //!
-//! In the folder tests/: cargo run --release --offline --bin loader_vectors
+//! In the folder tests/: cargo run --release --offline --bin loader_vectors [FOLDER]
 //!
+//! Without a folder the files go to that of the crate.
 //! stdin has a name of 32 bytes, a length of 4 (high byte first) and the stream, for each case.
 //! stdout has a line a case: the name, then six ways of loading it, each with its answer and the
 //! checksum of the whole buffer afterwards. Four words more than the image stand in the buffer, and
@@ -10,13 +11,13 @@
 //! written where everything is to be left as found. Bytes that are no whole words load as bytes only.
 
 use std::fs;
-use std::path::Path;
+use std::path::{Path, PathBuf};
 
-use cases::build::{with, with_address, with_vlan, Address, A};
+use cases::build::{with, with_address, with_retagging, with_vlan, Address, A};
 use cases::case::{Case, Expect};
 use cases::damage::{flip, refusal_of_flip};
-use cases::named_streams;
 use cases::rules::least_entries;
+use cases::{named_retagging, named_streams};
 use reference::crc;
 use reference::image::IMAGE_WORDS;
 use reference::k;
@@ -27,12 +28,14 @@ use reference::tables::{address_lookup, mac_configuration, policing, vlan_lookup
 
 const NAME_BYTES: usize = 32;
 const FOUND: u32 = 0xA5A5_A5A5;
-const CLAUSE: &str = "document 01, The stream and Numbers for a refused load";
+const CLAUSE: &str =
+    "document 01, The stream and Numbers for a refused load; document 02, request 2";
 
 fn main() {
     let top = Path::new(env!("CARGO_MANIFEST_DIR")).join("../..");
     let mut all = vectors(&top.join("tests/vectors"));
     all.extend(named_streams::cases());
+    all.extend(named_retagging::cases());
     all.extend(every_limit());
     all.extend(long_tables());
     all.extend(neighbours());
@@ -49,7 +52,8 @@ fn main() {
         output.push_str(&format!("{name}{}\n", line_of(case)));
     }
     assert!(all.len() <= 4096, "the program runs 4,096 cases");
-    let folder = top.join("crates/loader_vectors");
+    let told = std::env::args_os().nth(1).map(PathBuf::from);
+    let folder = told.unwrap_or_else(|| top.join("crates/loader_vectors"));
     fs::write(folder.join("stdin"), input).expect("stdin is written");
     fs::write(folder.join("stdout"), output).expect("stdout is written");
 }
@@ -147,6 +151,7 @@ fn k_with(table: Table, entries: usize) -> Lists {
         lists = match table {
             Table::L2AddressLookup => with_address(lists, address(number)),
             Table::VlanLookup => with_vlan(lists, (number + 1) % 4096, 31, 31, 0),
+            Table::Retagging => with_retagging(lists, number % 32, 1, 1),
             _ => {
                 lists.push_zero(table);
                 lists
