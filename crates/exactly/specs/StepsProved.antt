@@ -22,12 +22,14 @@ use Rattle.settle.specs.declared.Verdict.{Verdict}
 use Rattle.settle.specs.declared.Verdict.the-variants.{Refused, Drop, Sent}
 use Rattle.settle.specs.Settle.{Judged}
 use Rattle.judge.specs.Refusal.{mistimed, refusalOf}
+use Rattle.judge.specs.declared.Judgement.{Judgement}
 use Rattle.judge.specs.Judge.{planFor, judgeOf, Judges}
 use Rattle.settle.specs.After.{spentAt}
 use Rattle.judge.specs.Cases.{by-cases}
-use Rattle.judge.specs.Proved.{refused-unchanged}
+use Rattle.judge.specs.Proved.{refused-unchanged, own-verdict}
 use Rattle.flat_answers.specs.declared.FlatVerdict.{FlatVerdict}
 use Rattle.flat_answers.specs.Answers.{flatVerdict}
+use Rattle.flat_frames.specs.declared.FlatJudged.{FlatJudged}
 use Rattle.flat_frames.specs.Frames.{JudgesFlat}
 use Rattle.exactly.specs.First.{First, Exactly}
 use Rattle.exactly.specs.Decides.{firstOf}
@@ -174,19 +176,23 @@ number-back buffer port frame n = go (eqb n 0) (ltb n 30) refl
     go false false e = refl
 
 -- "The first drop that applies is the verdict", and before it the first refusal: for every verdict that the promise of a frame permits
-pub first-that-applies : (buffer g : List ℕ) (port time : ℕ) (frame : List ℕ) (r : Verdict) (after : List ℕ) → Judges buffer g port time frame r after
-    → Exactly Verdict (First (framePage buffer g port time frame)) (verdictBy buffer port frame) r
-first-that-applies buffer g port time frame r after p =
-    exactly Verdict (First (framePage buffer g port time frame)) (verdictBy buffer port frame) numberIn r _ (number-back buffer port frame)
-    (same-first (framePage buffer g port time frame)) (first-is-number buffer g port time frame) (p .verdict ∙ verdict-is buffer g port time frame)
+pub first-that-applies : (buffer g : List ℕ) (port time : ℕ) (frame places : List ℕ) (r : Judgement) (after told : List ℕ)
+    → Judges buffer g port time frame places r after told
+    → Exactly Verdict (First (framePage buffer g port time frame)) (verdictBy buffer port frame) (r .verdict)
+first-that-applies buffer g port time frame places r after told p =
+    exactly Verdict (First (framePage buffer g port time frame)) (verdictBy buffer port frame) numberIn (r .verdict) _ (number-back buffer port frame)
+    (same-first (framePage buffer g port time frame)) (first-is-number buffer g port time frame)
+    (ap (λ (j : Judgement). j .verdict) (p .answer) ∙ own-verdict buffer g port time frame ∙ verdict-is buffer g port time frame)
 
 -- the same of the numbers that C and Rust get
-pub first-that-applies-flat : (buffer g : List ℕ) (port time : ℕ) (frame : List ℕ) (r : FlatVerdict) (after : List ℕ) → JudgesFlat buffer g port time frame r after
-    → Exactly FlatVerdict (First (framePage buffer g port time frame)) (λ n. flatVerdict (verdictBy buffer port frame n)) r
-first-that-applies-flat buffer g port time frame r after p =
-    exactly FlatVerdict (First (framePage buffer g port time frame)) (λ n. flatVerdict (verdictBy buffer port frame n)) (λ v. v .number) r _
+pub first-that-applies-flat : (buffer g : List ℕ) (port time : ℕ) (frame places : List ℕ) (r : FlatJudged) (after told : List ℕ)
+    → JudgesFlat buffer g port time frame places r after told
+    → Exactly FlatVerdict (First (framePage buffer g port time frame)) (λ n. flatVerdict (verdictBy buffer port frame n)) (r .verdict)
+first-that-applies-flat buffer g port time frame places r after told p =
+    exactly FlatVerdict (First (framePage buffer g port time frame)) (λ n. flatVerdict (verdictBy buffer port frame n)) (λ v. v .number) (r .verdict) _
     (λ n. number-kept (verdictBy buffer port frame n) ∙ number-back buffer port frame n)
-    (same-first (framePage buffer g port time frame)) (first-is-number buffer g port time frame) (p .verdict ∙ ap flatVerdict (verdict-is buffer g port time frame))
+    (same-first (framePage buffer g port time frame)) (first-is-number buffer g port time frame)
+    (ap (λ (j : FlatJudged). j .verdict) (p .answer) ∙ ap flatVerdict (own-verdict buffer g port time frame ∙ verdict-is buffer g port time frame))
   where
     number-kept : (v : Verdict) → flatVerdict v .number ≡ numberIn v
     number-kept (Refused n) = refl
