@@ -17,6 +17,7 @@ pub mod StepTests
 pub mod ReplicasLaws
 pub mod StepsLaws
 pub mod StepsProved
+pub mod ReplicasProved
 pub mod LoadProved
 pub mod Table
 pub mod TableProved
