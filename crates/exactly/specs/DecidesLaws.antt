@@ -66,6 +66,11 @@ pub by-not : {P : Type 0} (a : Bool) → Decides a P → Decides (not a) (P → 
 by-not true p = (λ e. absurd (false≢true e), λ n. absurd (n (p .0 refl)))
 by-not false p = (λ e h. false≢true (p .1 h), λ n. refl)
 
+-- where it does not hold, the test fails
+pub fails : {Q : Type 0} (b : Bool) → Decides b Q → (Q → ⊥) → b ≡ false
+fails true q z = absurd (z (q .0 refl))
+fails false q z = refl
+
 -- a scan that finds has found something
 some-is : (n : ℕ) (p : ℕ → Bool) → some-below n p ≡ true → Some n (λ i. p i ≡ true)
 unfolding some-below
@@ -104,7 +109,3 @@ by-no-first n p P d = (
   λ e i h q. true≢false (sym (d i .1 q) ∙ first-all n p (eqb-true _ n e) i h),
   λ none. eq-eqb (first n p) n (first-of-none n p (λ i h. fails (p i) (d i) (none i h))),
 )
-  where
-    fails : {Q : Type 0} (b : Bool) → Decides b Q → (Q → ⊥) → b ≡ false
-    fails true q z = absurd (z (q .0 refl))
-    fails false q z = refl

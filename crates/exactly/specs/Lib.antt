@@ -13,11 +13,13 @@ pub mod LoadLaws
 pub mod OnVlan
 pub mod Steps
 pub mod Replicas
+pub mod Matching
 pub mod StepTests
 pub mod ReplicasLaws
 pub mod StepsLaws
 pub mod StepsProved
 pub mod ReplicasProved
+pub mod MatchingProved
 pub mod LoadProved
 pub mod Table
 pub mod TableProved

@@ -47,7 +47,7 @@ use Rattle.exactly.specs.StepsProved.{judged-is}
 
 -- ---- one replica
 
-number-back : (image : List ℕ) (port : ℕ) (frame : List ℕ) (vlan priority n : ℕ) → numberIn (replicaVerdictBy image port frame vlan priority n) ≡ n
+pub number-back : (image : List ℕ) (port : ℕ) (frame : List ℕ) (vlan priority n : ℕ) → numberIn (replicaVerdictBy image port frame vlan priority n) ≡ n
 number-back image port frame vlan priority n = go (eqb n 0) refl
   where
     go : (z : Bool) → eqb n 0 ≡ z → numberIn (cond z (Sent (sendingOn image port frame vlan priority)) (Drop n)) ≡ n

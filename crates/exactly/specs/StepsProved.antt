@@ -158,7 +158,7 @@ module _ (buffer g : List ℕ) (port time : ℕ) (frame : List ℕ) where
 
 -- ---- the theorem
 
-number-back : (buffer : List ℕ) (port : ℕ) (frame : List ℕ) (n : ℕ) → numberIn (verdictBy buffer port frame n) ≡ n
+pub number-back : (buffer : List ℕ) (port : ℕ) (frame : List ℕ) (n : ℕ) → numberIn (verdictBy buffer port frame n) ≡ n
 number-back buffer port frame n = go (eqb n 0) (ltb n 30) refl
   where
     go : (z s : Bool) → eqb n 0 ≡ z → numberIn (cond z (Sent (sendingFor (imageIn buffer) port frame)) (cond s (Drop n) (Refused n))) ≡ n
