@@ -71,6 +71,11 @@ pub fails : {Q : Type 0} (b : Bool) → Decides b Q → (Q → ⊥) → b ≡ fa
 fails true q z = absurd (z (q .0 refl))
 fails false q z = refl
 
+-- it holds or it does not
+pub or-not : {Q : Type 0} (b : Bool) → Decides b Q → Q ⊎ (Q → ⊥)
+or-not true q = inl (q .0 refl)
+or-not false q = inr (λ h. false≢true (q .1 h))
+
 -- a scan that finds has found something
 some-is : (n : ℕ) (p : ℕ → Bool) → some-below n p ≡ true → Some n (λ i. p i ≡ true)
 unfolding some-below

@@ -1,4 +1,4 @@
--- Exactly when, and the first: the pages of a whole load and of a frame, and that the entries' promises answer by them.
+-- Exactly when, and the first: the pages of a whole load, of a frame and of a replica, and that the entries' promises answer by them.
 pub mod First
 pub mod FirstLaws
 pub mod Decides

@@ -1,5 +1,6 @@
 -- Which frames have replicas, how many, and where these go: whatever the calls' promises permit.
 use mathlib.Core.Path.{_≡_, refl, sym, _∙_, ap}
+use mathlib.Core.Logic.{⊎-elim}
 use mathlib.Core.Bool.{Bool, true, false, cond}
 use mathlib.Core.List.{List, [], _∷_, _++_, map}
 use Prim.Native.Nat.{ℕ, suc, _<_}
@@ -38,7 +39,7 @@ use Rattle.exactly.specs.ReplicasLaws.{is-named}
 use Rattle.exactly.specs.StepsLaws.{enter-is}
 use Rattle.exactly.specs.StepsProved as steps
 use Rattle.exactly.specs.ReplicasProved as replicas
-use Rattle.exactly.specs.ReplicasProved.{called-past, called-alone, of-flat}
+use Rattle.exactly.specs.ReplicasProved.{past-or-not, let-in, kept-out, called-past, called-alone, of-flat}
 
 -- ---- which frames have replicas
 
@@ -47,40 +48,20 @@ abbrev vlanIn : ℕ → Entered → ℕ
 vlanIn v (entered.Dropped n) = v
 vlanIn v (entered.In vlan place priority) = vlan
 
--- it is the frame's
-on-vlan : (image : List ℕ) (port : ℕ) (frame : List ℕ) (vlan place priority : ℕ) → enterOf image port frame ≡ entered.In vlan place priority
-    → vlan ≡ vlanOf image port frame
-on-vlan image port frame vlan place priority e =
-    ap (vlanIn v) (sym e ∙ enter-is image port frame)
-    ∙ go (ltb (octetsOf frame) 64) (eqb (ingress image port) 0) (untaggedDropped image port frame) (noVlan image v) (notMember image port frame)
-    (enforced image port frame)
-  where
-    v : ℕ
-    v = vlanOf image port frame
-
-    go : (a b c d e f : Bool)
-        → vlanIn v
-        (cond a (entered.Dropped 1)
-        (cond b (entered.Dropped 2)
-        (cond c (entered.Dropped 3)
-        (cond d (entered.Dropped 4) (cond e (entered.Dropped 5) (cond f (entered.Dropped 6) (entered.In v (vlanAt image v) (priorityOf image port frame))))))))
-        ≡ v
-    go true b c d e f = refl
-    go false true c d e f = refl
-    go false false true d e f = refl
-    go false false false true e f = refl
-    go false false false false true f = refl
-    go false false false false false true = refl
-    go false false false false false false = refl
-
 -- where no entry names the frame's VLAN and port, it is judged by itself
 alone : (buffer g : List ℕ) (port time : ℕ) (frame : List ℕ)
     → ((i : ℕ) → i < countOf (imageIn buffer) Retagging → Names (imageIn buffer) port (vlanOf (imageIn buffer) port frame) i → ⊥)
     → callOf buffer g port time frame ≡ byItself (judgeOf buffer g port time frame)
-alone buffer g port time frame unnamed =
-    no-match buffer g port time frame
-    (λ vlan place priority e i h. ap (λ (v : ℕ). names (imageIn buffer) port v i) (on-vlan (imageIn buffer) port frame vlan place priority e)
-    ∙ fails _ (is-named (imageIn buffer) port (vlanOf (imageIn buffer) port frame) i) (unnamed i h))
+alone buffer g port time frame unnamed = ⊎-elim past (kept-out buffer g port time frame) (past-or-not buffer g port time frame)
+  where
+    v : ℕ
+    v = vlanOf (imageIn buffer) port frame
+
+    past : NoneBefore 7 (framePage buffer g port time frame) → callOf buffer g port time frame ≡ byItself (judgeOf buffer g port time frame)
+    past p =
+        no-match buffer g port time frame
+        (λ vlan place priority e i h. ap (λ (x : ℕ). names (imageIn buffer) port x i) (ap (vlanIn v) (sym e ∙ let-in buffer g port time frame p .1))
+        ∙ fails _ (is-named (imageIn buffer) port v i) (unnamed i h))
 
 -- "on a VLAN and port named by an entry": a frame that no entry names has no replica, and its call says and leaves what the frame by itself does
 pub no-match-no-replica : (buffer g : List ℕ) (port time : ℕ) (frame places : List ℕ) (r : Judgement) (after told : List ℕ)

@@ -3,10 +3,10 @@ use mathlib.Core.Path.{_≡_, refl, ap}
 use mathlib.Core.Bool.{Bool, true, false, cond}
 use mathlib.Core.List.{List}
 use Prim.Native.Nat.{ℕ, _-_, _*_}
-use lib.Dec.{ltb, leb, eqb}
+use lib.Dec.{leb}
 use Rattle.image.specs.Layout.{countOf}
-use Rattle.image.specs.declared.tables.Table.the-variants.{Policing, VlanLookup}
-use Rattle.fields.specs.Fields.{maxlen, partition, ingPort, vlanIng, vlanEgr}
+use Rattle.image.specs.declared.tables.Table.the-variants.{Policing}
+use Rattle.fields.specs.Fields.{maxlen, partition, vlanIng}
 use Rattle.lookup.specs.Vlan.{vlanAt}
 use Rattle.broken.specs.Broken.{noVlan}
 use Rattle.ledger.specs.Row.{units, cell}

@@ -2,7 +2,7 @@
 use mathlib.Core.Path.{_≡_, refl, sym, _∙_, ap, subst}
 use mathlib.Core.Logic.{_⊎_, inl, inr, ⊎-elim}
 use mathlib.Core.Bool.{Bool, true, false, cond, not, true≢false, false≢true}
-use mathlib.Core.List.{List, [], _∷_, _++_}
+use mathlib.Core.List.{List, [], _∷_, map}
 use Prim.Native.Nat.{ℕ, zero, suc}
 use lib.Dec.{ltb, leb, eqb}
 use lib.ListN.{length}
@@ -34,8 +34,9 @@ use Rattle.judge.specs.Laws.{is-judged, one-judgement}
 use Rattle.judge.specs.Proved.{refused-unchanged, refused-call, no-match}
 use Rattle.flat_frames.specs.declared.FlatJudged.{FlatJudged}
 use Rattle.flat_frames.specs.Frames.{JudgesFlat}
-use Rattle.exactly.specs.First.{First, NoneBefore, Exactly}
+use Rattle.exactly.specs.First.{Clause, First, At, NoneBefore, Exactly}
 use Rattle.exactly.specs.Decides.{Decides, before}
+use Rattle.exactly.specs.DecidesLaws.{or-not}
 use Rattle.exactly.specs.FirstLaws.{same-first, first-is, none-before, exactly}
 use Rattle.exactly.specs.OnVlan.{sendingOn}
 use Rattle.exactly.specs.Steps.{vlanOf, priorityOf, framePage, numberIn}
@@ -161,6 +162,9 @@ module _ (buffer g : List ℕ) (port time : ℕ) (frame : List ℕ) where
   is-clear : Decides clear Past
   is-clear = none-before (framePage buffer g port time frame) (stepTests buffer g port time frame) 7 (decided buffer g port time frame)
 
+  pub past-or-not : Past ⊎ (Past → ⊥)
+  past-or-not = or-not clear is-clear
+
   gate-is : Gate vlan (vlanAt image vlan) priority clear (refusalOf buffer g port time frame) (enterOf image port frame)
   gate-is =
       subst (λ (n : ℕ). Gate vlan (vlanAt image vlan) priority clear n (enterOf image port frame)) (sym (refusal-is buffer g port time frame))
@@ -258,3 +262,22 @@ replicas-in-turn-flat buffer g port time frame places r after told p =
     subst (λ (n : ℕ). Replicated buffer g port time frame places n after told) (sym (ap (λ (k : FlatJudged). k .replicas) (p .answer)))
     (replicas-in-turn buffer g port time frame places (answerOf (callOf buffer g port time frame)) after told
     (of-flat buffer g port time frame places r after told p))
+
+-- ---- what pins the page, edited together with its tests
+
+-- "runs steps 4 and 7 to 11"
+pub six-steps : (image g : List ℕ) (port time : ℕ) (frame : List ℕ) (vlan priority : ℕ)
+    → map (λ (c : Clause). c .number) (replicaPage image g port time frame vlan priority) ≡ 4 ∷ 7 ∷ 8 ∷ 9 ∷ 10 ∷ 11 ∷ []
+six-steps image g port time frame vlan priority = refl
+
+-- each in the words of the frame's page, to which the frame's own VLAN brings it back
+pub the-frames-steps : (buffer g : List ℕ) (port time : ℕ) (frame : List ℕ)
+    → let page = replicaPage (imageIn buffer) g port time frame (vlanOf (imageIn buffer) port frame) (priorityOf (imageIn buffer) port frame) in
+    let whole = framePage buffer g port time frame in
+    (At 4 page ≡ At 4 whole)
+    × (At 7 page ≡ At 7 whole)
+    × (At 8 page ≡ At 8 whole)
+    × (At 9 page ≡ At 9 whole)
+    × (At 10 page ≡ At 10 whole)
+    × (At 11 page ≡ At 11 whole)
+the-frames-steps buffer g port time frame = (refl, refl, refl, refl, refl, refl)

@@ -5,7 +5,7 @@ use mathlib.Core.Bool.{Bool, true, false, cond, not}
 use mathlib.Core.List.{List}
 use Prim.Native.Nat.{ℕ, _*_, _/_, _%_, _^_, _<_}
 use native.Mathlib.Nat.{lt-irrefl, lt-of-lt-of-le}
-use lib.Dec.{ltb, leb, eqb}
+use lib.Dec.{ltb, eqb}
 use lib.ListN.{length}
 use borrow.Author.Tests.{ltb-true, ltb-false}
 use Rattle.image.specs.Rows.{indexOf, tableCount, rowAt, mostOf}
@@ -34,7 +34,7 @@ use Rattle.judge.specs.Refusal.{refusalOf}
 use Rattle.exactly.specs.Decides.{Decides, Decided}
 use Rattle.exactly.specs.DecidesLaws.{also, by-lt, by-le, by-eq, by-or, by-and, by-unless, by-when, by-words, by-not, by-some}
 use Rattle.exactly.specs.RulesProved.{is-incomplete}
-use Rattle.exactly.specs.Steps.{NotLoaded, CreditOver, OctetsOff, CountsOff, OutOfRange, In, hasTag, tagVlan, vlanOf, priorityOf, placeOf, Enforced, framePage}
+use Rattle.exactly.specs.Steps.{NotLoaded, CreditOver, OctetsOff, CountsOff, OutOfRange, hasTag, tagVlan, vlanOf, priorityOf, placeOf, Enforced, framePage}
 use Rattle.exactly.specs.Replicas.{replicaPage}
 use Rattle.exactly.specs.ReplicasLaws as replica
 use Rattle.exactly.specs.StepTests.{replicaTests, untaggedDropped, enforced, placedBy, enteredBy, refusedBy, stepTests}
