@@ -18,6 +18,7 @@ pub mod StepTests
 pub mod ReplicasLaws
 pub mod StepsLaws
 pub mod StepsProved
+pub mod PastLaws
 pub mod ReplicasProved
 pub mod MatchingProved
 pub mod LoadProved

@@ -1,21 +1,16 @@
 -- Which frames have replicas, how many, and where these go: whatever the calls' promises permit.
-use mathlib.Core.Path.{_≡_, refl, sym, _∙_, ap}
+use mathlib.Core.Path.{_≡_, sym, _∙_, ap}
 use mathlib.Core.Logic.{⊎-elim}
-use mathlib.Core.Bool.{Bool, true, false, cond}
 use mathlib.Core.List.{List, [], _∷_, _++_, map}
 use Prim.Native.Nat.{ℕ, suc, _<_}
-use lib.Dec.{ltb, eqb}
 use native.Mathlib.Nat.{le-step, lt-suc-self}
 use Rattle.laws.specs.Scan.{total, flag}
 use Rattle.image.specs.Layout.{imageIn, countOf}
 use Rattle.image.specs.declared.tables.Table.the-variants.{Retagging}
-use Rattle.fields.specs.Fields.{ingress, vlanEgr}
+use Rattle.fields.specs.Fields.{vlanEgr}
 use Rattle.lookup.specs.Vlan.{vlanAt}
-use Rattle.broken.specs.Broken.{noVlan}
-use Rattle.frame.specs.Bytes.{octetsOf}
 use Rattle.plan.specs.declared.enter.Entered.{Entered}
 use Rattle.plan.specs.declared.enter.Entered.the-variants as entered
-use Rattle.plan.specs.Enter.{enterOf}
 use Rattle.ports.specs.declared.Sending.{Sending}
 use Rattle.ports.specs.Ports.{portsOf, sendingOf}
 use Rattle.settle.specs.declared.Verdict.{Verdict}
@@ -34,12 +29,11 @@ use Rattle.exactly.specs.DecidesLaws.{fails}
 use Rattle.exactly.specs.Steps.{vlanOf, priorityOf, framePage, numberIn}
 use Rattle.exactly.specs.Replicas.{replicaPage, replicaVerdictBy, Names, InTurn, none, yields, passes}
 use Rattle.exactly.specs.Matching.{Each, AsAFrame}
-use Rattle.exactly.specs.StepTests.{untaggedDropped, notMember, enforced}
 use Rattle.exactly.specs.ReplicasLaws.{is-named}
-use Rattle.exactly.specs.StepsLaws.{enter-is}
 use Rattle.exactly.specs.StepsProved as steps
 use Rattle.exactly.specs.ReplicasProved as replicas
-use Rattle.exactly.specs.ReplicasProved.{past-or-not, let-in, kept-out, called-past, called-alone, of-flat}
+use Rattle.exactly.specs.ReplicasProved.{of-flat}
+use Rattle.exactly.specs.PastLaws.{past-or-not, let-in, kept-out, called-past, called-alone}
 
 -- ---- which frames have replicas
 
@@ -89,7 +83,7 @@ no-match-no-replica-flat buffer g port time frame places r after told p unnamed 
 
 -- ---- how many
 
--- "several matching entries": a frame that gets past drop 6 has as many replicas as entries name its VLAN and port
+-- "several matching entries": a frame that gets past drop 6 has as many replicas as entries name its VLAN and port; `names` is the test of it (`is-named`)
 pub as-many-as-match : (buffer g : List ℕ) (port time : ℕ) (frame places : List ℕ) (r : Judgement) (after told : List ℕ)
     → Judges buffer g port time frame places r after told
     → NoneBefore 7 (framePage buffer g port time frame)
