@@ -61,8 +61,8 @@ Bytes n κ f = ShrSlice (named n) κ u8 .own f (machS f ∷ [])
 abbrev pub Places : RattleType
 Places = Array u64 320
 
-abbrev pub Told : ℕ → Lft → RefT (List ℕ) → Fml
-Told n κ t = MutRef (named n) κ Places .own t (machP t ∷ [])
+abbrev pub Lent : ℕ → Lft → RefT (List ℕ) → Fml
+Lent n κ t = MutRef (named n) κ Places .own t (machP t ∷ [])
 
 abbrev pub Left : RefT (List ℕ) → List ℕ → Fml
 Left t w = fres (t .name) (Places .coded .code w)

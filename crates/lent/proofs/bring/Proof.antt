@@ -50,7 +50,7 @@ use Rattle.lent.proofs.Told as T
 use Rattle.lent.proofs.Told.Laws as T′
 use Rattle.lent.proofs.Brought as B
 use Rattle.lent.proofs.Brought.Laws as B′
-use Rattle.lent.proofs.Held.{mach, machE, machS, machP, KeptE, Image, Bytes, Places, Told, Left, Passed, passed, passed-on}
+use Rattle.lent.proofs.Held.{mach, machE, machS, machP, KeptE, Image, Bytes, Places, Lent, Left, Passed, passed, passed-on}
 use Rattle.lent.proofs.step as step
 use Rattle.lent.proofs.step.Symbol as step-def
 use Rattle.lent.proofs.step.Symbol.{name as #lent·step}
@@ -89,7 +89,7 @@ module _ {M : Type 1} (𝓤 : URA M) (H : Heap 𝓤) (A : Atoms 𝓤) (W : Given
     walk : Is (ShrSlice (named 0) κ₀ u32) s (machS s ∷ []) → Is (ShrSlice (named 2) κ₂ u8) f (machS f ∷ [])
         → ent 𝓤 (onEntry 𝓤 H A bring.signature (here .0 .0) (here .0 .1) (here .0 .3) (here .0 .4)) (WpFn 𝓤 H C Λ code.function (machS s ∷ vptr b o ∷ machE v ∷ machS f ∷ machP t ∷ []) (walkOf 𝓤 H A bring.ended stayed (bring.clauses 𝓤 H A at-mem run) .post here))
     walk ps pf =
-        qed W ((‵ (flft κ₀ q₀) ⊛ (‵ (flft κ₁ q₁) ⊛ (‵ (flft κ₂ q₂) ⊛ (‵ (flft κ₃ q₃) ⊛ ‵ ftrue)))) ∷ ‵ (Passed κ₀ 2 κ₂ s v f (Loan h) (Told 3 κ₃ t)) ∷ []) ∵
+        qed W ((‵ (flft κ₀ q₀) ⊛ (‵ (flft κ₁ q₁) ⊛ (‵ (flft κ₂ q₂) ⊛ (‵ (flft κ₃ q₃) ⊛ ‵ ftrue)))) ∷ ‵ (Passed κ₀ 2 κ₂ s v f (Loan h) (Lent 3 κ₃ t)) ∷ []) ∵
         split ! $ move ! (1 ∷ []) $ split ! $ move ! (1 ∷ []) $ split ! $ move ! (1 ∷ []) $ split ! $
         move ! (5 ∷ []) $ fsplit ! $ move ! (1 ∷ []) $ fsplit ! $ move ! (1 ∷ []) $ fsplit ! $ move ! (1 ∷ []) $ fsplit ! $ move ! (1 ∷ []) $ fsplit ! $
         -- [the places'; true; the frame's; the event's; the reference; the image's; κ₃; true; κ₂; κ₁; κ₀]
@@ -103,7 +103,7 @@ module _ {M : Type 1} (𝓤 : URA M) (H : Heap 𝓤) (A : Atoms 𝓤) (W : Given
         move ! (1 ∷ []) $ peeks ! L.the-row (Is L.the-row) (shows 𝓤 H A L.the-row) h _ (λ is.
         assigns ! (of-opd ! (load ! (from ! (hop ! (look ! 17 refl) (stop !))) (look-raw ! 1 refl))) (from ! (stop !)) (init ! 7 refl (LL.lawful L.the-type L′.the-laws 𝓤 H A W .typed h _ is .0)) $
         assigns ! (addr ! (from ! (hop ! (look ! 11 refl) (stop !)))) (from ! (stop !)) (init ! 5 refl (tt, tt)) $
-        move ! (0 ∷ 26 ∷ 27 ∷ 28 ∷ []) $ group ! 4 $ use1 W (‵ (Passed κ₀ 2 κ₂ s v f (L.the-row .own h (mach h ∷ [])) (Told 3 κ₃ t)) ⊛ (‵ (Image κ₀ s) ⊛ ‵ (Bytes 2 κ₂ f))) (passed-on κ₀ 2 κ₂ s v f 𝓤 H A W okv (L.the-row .own h (mach h ∷ [])) (Told 3 κ₃ t)) $ split ! $ move ! (1 ∷ []) $ split ! $
+        move ! (0 ∷ 26 ∷ 27 ∷ 28 ∷ []) $ group ! 4 $ use1 W (‵ (Passed κ₀ 2 κ₂ s v f (L.the-row .own h (mach h ∷ [])) (Lent 3 κ₃ t)) ⊛ (‵ (Image κ₀ s) ⊛ ‵ (Bytes 2 κ₂ f))) (passed-on κ₀ 2 κ₂ s v f 𝓤 H A W okv (L.the-row .own h (mach h ∷ [])) (Lent 3 κ₃ t)) $ split ! $ move ! (1 ∷ []) $ split ! $
         -- [the image's; the frame's; what is passed; the ledger's cell; the open borrow; obs; auth; _8; …; room for _0; …; κ₀; κ₂; κ₃]
         nothing ! $ move ! (28 ∷ 0 ∷ []) $ join ! $ move ! (27 ∷ 0 ∷ []) $ join ! $ move ! (26 ∷ 0 ∷ []) $ join ! $ move ! (0 ∷ 3 ∷ []) $ join ! $ nothing ! $ move ! (1 ∷ 0 ∷ []) $ join ! $ use1 W (raw (Step 𝓤 H A at-mem run .pre to)) (id⊢ 𝓤 _) $
         -- [what the callee asks; the image's; the frame's; the ledger's cell; the open borrow; obs; auth; _8; …; _7; …; room for _6; …; _5; …; _4; …; _3; …; _2; …; _1; …; room for _0; …]
