@@ -25,13 +25,26 @@ pub struct Brought {
     pub ledger: Ledger,
 }
 
-// The step by value.
-pub fn step(image: &[u32], ledger: Ledger, event: Event, frame: &[u8], replicas: &mut [u64; PLACES]) -> Brought
+// The step: the ledger by value, the places lent.
+pub fn step(
+    image: &[u32],
+    ledger: Ledger,
+    event: Event,
+    frame: &[u8],
+    replicas: &mut [u64; PLACES],
+) -> Brought
     ensures { λ k. ⌜ Brings (now (image .entry)) (ledger .cells) event (now (frame .entry)) (now (replicas .entry)) (k .told) (k .ledger .cells) (now (replicas .exit)) ⌝ }
 {
     let mut after = ledger;
     let told = match event {
-        Event::Frame(port, time) => Told::Judged(judge(image, &mut after.cells, port, time, frame, replicas)),
+        Event::Frame(port, time) => Told::Judged(judge(
+            image,
+            &mut after.cells,
+            port,
+            time,
+            frame,
+            replicas,
+        )),
         Event::Release(partition) => Told::Released(release(image, &mut after.cells, partition)),
     };
     Brought {
@@ -40,8 +53,14 @@ pub fn step(image: &[u32], ledger: Ledger, event: Event, frame: &[u8], replicas:
     }
 }
 
-// What a record tells; the ledger is left as the step leaves it.
-pub fn bring(image: &[u32], g: &mut Ledger, event: Event, frame: &[u8], replicas: &mut [u64; PLACES]) -> Told
+// What a record tells; the ledger and the places are left as the step leaves them.
+pub fn bring(
+    image: &[u32],
+    g: &mut Ledger,
+    event: Event,
+    frame: &[u8],
+    replicas: &mut [u64; PLACES],
+) -> Told
     ensures { λ r. ⌜ Brings (now (image .entry)) (now (g .entry) .cells) event (now (frame .entry)) (now (replicas .entry)) r (now (g .exit) .cells) (now (replicas .exit)) ⌝ }
 {
     let k = step(image, *g, event, frame, replicas);
@@ -50,7 +69,13 @@ pub fn bring(image: &[u32], g: &mut Ledger, event: Event, frame: &[u8], replicas
 }
 
 // The same by a ledger of one's own that is lent: every caller that holds its ledger by value needs no walk.
-pub fn bring_once(image: &[u32], ledger: Ledger, event: Event, frame: &[u8], replicas: &mut [u64; PLACES]) -> Brought
+pub fn bring_once(
+    image: &[u32],
+    ledger: Ledger,
+    event: Event,
+    frame: &[u8],
+    replicas: &mut [u64; PLACES],
+) -> Brought
     ensures { λ r. ⌜ Brings (now (image .entry)) (ledger .cells) event (now (frame .entry)) (now (replicas .entry)) (r .told) (r .ledger .cells) (now (replicas .exit)) ⌝ }
 {
     let mut g = ledger;
