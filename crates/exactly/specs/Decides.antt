@@ -22,6 +22,12 @@ firstOf [] ts none = none
 firstOf (c ∷ cs) [] none = none
 firstOf (c ∷ cs) (t ∷ ts) none = cond t (c .number) (firstOf cs ts none)
 
+-- the test of some clause before number n holds
+abbrev pub before : ℕ → List Clause → List Bool → Bool
+before n [] ts = false
+before n (c ∷ cs) [] = false
+before n (c ∷ cs) (t ∷ ts) = cond (eqb (c .number) n) false (cond t true (before n cs ts))
+
 -- some clause has the number n
 abbrev pub has : ℕ → List Clause → Bool
 has n [] = false

@@ -8,7 +8,7 @@ use lib.Dec.{eqb}
 use borrow.Author.Tests.{eqb-true, eq-eqb, not-true}
 use Rattle.laws.specs.Chain.{both-passed}
 use Rattle.exactly.specs.First.{Clause, FirstOr, First, At, NoneBefore, Exactly}
-use Rattle.exactly.specs.Decides.{Decides, Decided, firstOf, has, distinct}
+use Rattle.exactly.specs.Decides.{Decides, Decided, firstOf, before, has, distinct}
 
 -- ---- one number
 
@@ -48,6 +48,18 @@ first-at (c ∷ cs) n b a = go (first-at cs n) (eqb (c .number) n) refl b a
         → First (c ∷ cs) n
     go rest true e b a = inl (a, sym (eqb-true _ n e))
     go rest false e b a = inr (b .0, rest (b .1) a)
+
+-- where each clause has a test, whether any before number n holds has one
+pub none-before : (cs : List Clause) (ts : List Bool) (n : ℕ) → Decided cs ts → Decides (not (before n cs ts)) (NoneBefore n cs)
+none-before [] ts n d = (λ e. tt, λ u. refl)
+none-before (c ∷ cs) [] n d = absurd d
+none-before (c ∷ cs) (t ∷ ts) n d = go (eqb (c .number) n) t (d .0) (none-before cs ts n (d .1))
+  where
+    go : (b t : Bool) → Decides t (c .holds) → Decides (not (before n cs ts)) (NoneBefore n cs)
+        → Decides (not (cond b false (cond t true (before n cs ts)))) (cond b (Unit {0}) ((c .holds → ⊥) × NoneBefore n cs))
+    go true t own rest = (λ e. tt, λ u. refl)
+    go false true own rest = (λ e. absurd (false≢true e), λ p. absurd (p .0 (own .0 refl)))
+    go false false own rest = (λ e. (λ h. false≢true (own .1 h), rest .0 e), λ p. rest .1 (p .1))
 
 at-has : (cs : List Clause) (n : ℕ) → At n cs → has n cs ≡ true
 at-has [] n a = absurd a

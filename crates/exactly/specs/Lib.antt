@@ -10,8 +10,11 @@ pub mod IdsLaws
 pub mod Framing
 pub mod Load
 pub mod LoadLaws
+pub mod OnVlan
 pub mod Steps
+pub mod Replicas
 pub mod StepTests
+pub mod ReplicasLaws
 pub mod StepsLaws
 pub mod StepsProved
 pub mod LoadProved

@@ -28,7 +28,8 @@ is-twice : (n : ℕ) (f : ℕ → ℕ) → Decides (twice n f) (Twice n f)
 unfolding twice
 is-twice n f = by-some n _ _ (λ j. by-some j _ _ (λ i. by-eq (f i) (f j)))
 
-is-no-vlan : (image : List ℕ) (vlan : ℕ) → Decides (noVlan image vlan) (NoVlan image vlan)
+-- 22's, which 4 of a frame and of a replica shares
+pub is-no-vlan : (image : List ℕ) (vlan : ℕ) → Decides (noVlan image vlan) (NoVlan image vlan)
 is-no-vlan image vlan = by-no-first (countOf image VlanLookup) _ _ (λ i. by-eq (vlanid image i) vlan)
 
 is-missing : (image : List ℕ) → Decides (vlanMissing image) (Missing image)

@@ -3,24 +3,23 @@ use mathlib.Core.Path.{_≡_}
 use mathlib.Core.Logic.{_⊎_}
 use mathlib.Core.Bool.{Bool, cond}
 use mathlib.Core.List.{List, [], _∷_}
-use Prim.Native.Nat.{ℕ, _+_, _-_, _*_, _/_, _%_, _^_, _<_, _≤_, min}
+use Prim.Native.Nat.{ℕ, _-_, _*_, _/_, _%_, _^_, _<_, _≤_}
 use lib.Dec.{ltb, eqb}
 use lib.ListN.{length}
 use Rattle.image.specs.Rows.{mostOf}
 use Rattle.image.specs.Layout.{imageIn, countOf, markOf}
 use Rattle.image.specs.declared.tables.Table.{Table}
-use Rattle.image.specs.declared.tables.Table.the-variants.{AddressLookup, Policing, VlanLookup}
-use Rattle.fields.specs.Fields.{addressVlanid, macaddr, destports, enfport, sharedLearn, sharindx, smax, rate, maxlen, partition, vmembPort, vlanid, vlanprio, portVlanid, drpuntag, ingress, partSpc}
+use Rattle.image.specs.declared.tables.Table.the-variants.{AddressLookup, Policing}
+use Rattle.fields.specs.Fields.{addressVlanid, macaddr, destports, enfport, sharedLearn, smax, maxlen, partition, vmembPort, vlanprio, portVlanid, drpuntag, ingress, partSpc}
 use Rattle.lookup.specs.Vlan.{vlanAt}
 use Rattle.ledger.specs.Row.{units, credit, since, frames, drops, octets, dropped, last, cell}
-use Rattle.frame.specs.Bytes.{octetsOf, destinationOf, sourceOf, pairAt}
-use Rattle.plan.specs.Police.{policerOf}
+use Rattle.frame.specs.Bytes.{octetsOf, sourceOf, pairAt}
 use Rattle.ports.specs.declared.Sending.{Sending}
-use Rattle.ports.specs.Ports.{portsOf, sendingOf}
 use Rattle.settle.specs.declared.Verdict.{Verdict}
 use Rattle.settle.specs.declared.Verdict.the-variants.{Refused, Drop, Sent}
 use Rattle.exactly.specs.First.{Clause, clause, Some}
-use Rattle.exactly.specs.Rules.{TooShort, Incomplete}
+use Rattle.exactly.specs.Rules.{TooShort, Incomplete, NoVlan}
+use Rattle.exactly.specs.OnVlan.{policerAt, meterAt, creditAt, NotPoliced, MeterShort, portsOn, sendingOn}
 
 -- ---- the call's refusals
 
@@ -84,36 +83,28 @@ module _ (image : List ℕ) (port : ℕ) (frame : List ℕ) where
   abbrev pub placeOf : ℕ
   placeOf = vlanAt image vlanOf
 
-  -- "k is 40 + port for destination FF:FF:FF:FF:FF:FF, else 8 × port + p"
+  -- steps 7 to 11 on this VLAN and with this priority: k, its meter and the credit
   abbrev pub policerFor : ℕ
-  policerFor = policerOf port priorityOf (destinationOf frame)
+  policerFor = policerAt port frame priorityOf
 
-  -- "The meter and its SMAX and RATE are those of the SHARINDX entry."
   abbrev pub meterFor : ℕ
-  meterFor = sharindx image policerFor
+  meterFor = meterAt image port frame priorityOf
 
-  -- "Ports, with 08's masks from entry port"
-  abbrev pub portsFor : ℕ
-  portsFor = portsOf image port vlanOf placeOf (destinationOf frame)
-
-  -- what a sent frame is sent with: its ports, VLAN, new priority, tags and queues
-  abbrev pub sendingFor : Sending
-  sendingFor = sendingOf image port portsFor vlanOf priorityOf placeOf
-
-  -- "Credit in millionths of a bit is the lesser of SMAX × 8,000,000 and old credit + elapsed µs × RATE × 15,625."
   abbrev pub creditFor : List ℕ → ℕ → ℕ
-  creditFor g time =
-      min (smax image meterFor * 8000000) (cell g credit meterFor + (time - cell g since meterFor) * rate image meterFor * 15625)
+  creditFor = creditAt image port frame priorityOf
+
+  -- the ports, and what a sent frame is sent with
+  abbrev pub portsFor : ℕ
+  portsFor = portsOn image port frame vlanOf
+
+  abbrev pub sendingFor : Sending
+  sendingFor = sendingOn image port frame vlanOf priorityOf
 
   -- ---- the drops
 
   -- 3. "Untagged and DRPUNTAG set."
   abbrev pub UntaggedDropped : Type 0
   UntaggedDropped = (Tagged frame → ⊥) × (drpuntag image port ≡ 0 → ⊥)
-
-  -- 4. "The VLAN has no entry in 07."
-  abbrev pub NoEntry : Type 0
-  NoEntry = (i : ℕ) → i < countOf image VlanLookup → vlanid image i ≡ vlanOf → ⊥
 
   -- 5. "Tagged and the port is not in VMEMB_PORT."
   abbrev pub NotMember : Type 0
@@ -127,14 +118,6 @@ module _ (image : List ℕ) (port : ℕ) (frame : List ℕ) where
       × (macaddr image i ≡ sourceOf frame)
       × ((sharedLearn image ≡ 1) ⊎ (addressVlanid image i ≡ vlanOf))
       × (In (destports image i) port → ⊥))
-
-  -- 7. "Policing entry k, or the one its SHARINDX names, is not loaded."
-  abbrev pub NotPoliced : Type 0
-  NotPoliced = (countOf image Policing ≤ policerFor) ⊎ (countOf image Policing ≤ meterFor)
-
-  -- 9. "Meter short. .. It must reach L × 8,000,000"
-  abbrev pub MeterShort : List ℕ → ℕ → Type 0
-  MeterShort g time = creditFor g time < octetsOf frame * 8000000
 
 -- ---- the page
 
@@ -151,12 +134,12 @@ framePage buffer g port time frame =
     ∷ clause 1 (octetsOf frame < 64)
     ∷ clause 2 (ingress (imageIn buffer) port ≡ 0)
     ∷ clause 3 (UntaggedDropped (imageIn buffer) port frame)
-    ∷ clause 4 (NoEntry (imageIn buffer) port frame)
+    ∷ clause 4 (NoVlan (imageIn buffer) (vlanOf (imageIn buffer) port frame))
     ∷ clause 5 (NotMember (imageIn buffer) port frame)
     ∷ clause 6 (Enforced (imageIn buffer) port frame)
-    ∷ clause 7 (NotPoliced (imageIn buffer) port frame)
+    ∷ clause 7 (NotPoliced (imageIn buffer) port frame (priorityOf (imageIn buffer) port frame))
     ∷ clause 8 (maxlen (imageIn buffer) (policerFor (imageIn buffer) port frame) < octetsOf frame)
-    ∷ clause 9 (MeterShort (imageIn buffer) port frame g time)
+    ∷ clause 9 (MeterShort (imageIn buffer) port frame (priorityOf (imageIn buffer) port frame) g time)
     ∷ clause 10 (portsFor (imageIn buffer) port frame ≡ 0)
     ∷ clause 11 (cell g units (partition (imageIn buffer) (policerFor (imageIn buffer) port frame)) ≡ 0)
     ∷ []
@@ -164,3 +147,9 @@ framePage buffer g port time frame =
 -- the verdict of a number: 0 is sent, from 30 on a call is refused, the others are drops
 abbrev pub verdictBy : List ℕ → ℕ → List ℕ → ℕ → Verdict
 verdictBy buffer port frame n = cond (eqb n 0) (Sent (sendingFor (imageIn buffer) port frame)) (cond (ltb n 30) (Drop n) (Refused n))
+
+-- a verdict's number
+abbrev pub numberIn : Verdict → ℕ
+numberIn (Refused n) = n
+numberIn (Drop n) = n
+numberIn (Sent s) = 0

@@ -1,4 +1,4 @@
--- Each clause of a frame's page is decided by its test, and steps 1 to 8 ask theirs in the page's order.
+-- Each clause of a frame's page is decided by its test, and steps 1 to 6 ask theirs in the page's order.
 use mathlib.Core.Path.{_≡_, refl, sym, subst}
 use mathlib.Core.Logic.{inl, inr, ⊎-elim}
 use mathlib.Core.Bool.{Bool, true, false, cond, not}
@@ -11,35 +11,33 @@ use borrow.Author.Tests.{ltb-true, ltb-false}
 use Rattle.image.specs.Rows.{indexOf, tableCount, rowAt, mostOf}
 use Rattle.image.specs.RowLaws.{placed}
 use Rattle.image.specs.Layout.{imageIn, countOf}
-use Rattle.image.specs.Loaded.{above, overLimit, notLoaded}
+use Rattle.image.specs.Loaded.{above, overLimit, tooShort, notLoaded}
 use Rattle.image.specs.declared.tables.Table.{Table}
-use Rattle.image.specs.declared.tables.Table.the-variants.{AddressLookup, Policing, VlanLookup}
-use Rattle.fields.specs.Fields.{addressVlanid, macaddr, destports, enfport, sharedLearn, sharindx, smax, maxlen, partition, vmembPort, vlanid, vlanprio, portVlanid, drpuntag, ingress, partSpc}
+use Rattle.image.specs.declared.tables.Table.the-variants.{AddressLookup, Policing}
+use Rattle.fields.specs.Fields.{addressVlanid, macaddr, destports, enfport, sharedLearn, smax, vmembPort, vlanprio, portVlanid, drpuntag, ingress, partSpc}
 use Rattle.lookup.specs.Vlan.{vlanAt}
 use Rattle.addresses.specs.Address.{barred}
+use Rattle.broken.specs.Broken.{noVlan}
 use Rattle.ledger.specs.Row.{units, credit, since, frames, drops, octets, dropped, last, cell}
-use Rattle.ledger.specs.Range.{latest, fullOf, octetsOff, countsOff, outOfRange}
+use Rattle.ledger.specs.Range.{latest, fullOf, octetsOff, countsOff, outOfRange, unloaded, standing}
 use Rattle.frame.specs.declared.Tag.the-variants as tag
 use Rattle.frame.specs.declared.Intake.{Intake}
 use Rattle.frame.specs.declared.Intake.the-variants as intake
-use Rattle.frame.specs.Bytes.{octetsOf, destinationOf, sourceOf, pairAt, tagOf}
+use Rattle.frame.specs.Bytes.{octetsOf, sourceOf, pairAt, tagOf}
 use Rattle.frame.specs.Intake.{vlanOr, byTag, intakeOf}
 use Rattle.plan.specs.declared.enter.Placed.the-variants as found
+use Rattle.plan.specs.declared.enter.Entered.{Entered}
 use Rattle.plan.specs.declared.enter.Entered.the-variants as entered
-use Rattle.plan.specs.declared.Policed.the-variants.{Unmetered, TooLong, By}
-use Rattle.plan.specs.declared.Course.{Course}
-use Rattle.plan.specs.declared.Planned.{Planned}
-use Rattle.plan.specs.declared.Planned.the-variants.{Dropped, Goes}
 use Rattle.plan.specs.Steps.{placedOf, outsider, keptOut}
 use Rattle.plan.specs.Enter.{byPlace, byIntake, enterOf}
-use Rattle.plan.specs.Police.{policerOf, policedOf}
-use Rattle.plan.specs.Plan.{courseOf, byPolicer, planOf}
-use Rattle.judge.specs.Judge.{byEntry, planFor}
+use Rattle.judge.specs.Refusal.{refusalOf}
 use Rattle.exactly.specs.Decides.{Decides, Decided}
-use Rattle.exactly.specs.DecidesLaws.{also, by-lt, by-le, by-eq, by-none, by-or, by-and, by-unless, by-when, by-words, by-not, by-some, by-no-first}
+use Rattle.exactly.specs.DecidesLaws.{also, by-lt, by-le, by-eq, by-or, by-and, by-unless, by-when, by-words, by-not, by-some}
 use Rattle.exactly.specs.RulesProved.{is-incomplete}
-use Rattle.exactly.specs.Steps.{NotLoaded, CreditOver, OctetsOff, CountsOff, OutOfRange, In, hasTag, tagVlan, vlanOf, priorityOf, placeOf, policerFor, meterFor, portsFor, creditFor, Enforced, framePage}
-use Rattle.exactly.specs.StepTests.{untaggedDropped, enforced, policed, placedBy, stepTests}
+use Rattle.exactly.specs.Steps.{NotLoaded, CreditOver, OctetsOff, CountsOff, OutOfRange, In, hasTag, tagVlan, vlanOf, priorityOf, placeOf, Enforced, framePage}
+use Rattle.exactly.specs.Replicas.{replicaPage}
+use Rattle.exactly.specs.ReplicasLaws as replica
+use Rattle.exactly.specs.StepTests.{replicaTests, untaggedDropped, enforced, placedBy, enteredBy, refusedBy, stepTests}
 
 -- ---- each clause has a test
 
@@ -104,91 +102,84 @@ decided buffer g port time frame =
     (also (by-lt (octetsOf frame) 64)
     (also (by-eq (ingress image port) 0)
     (also (by-unless _ _ (by-eq (pairAt frame 12) 0x8100) (by-not _ (by-eq (drpuntag image port) 0)))
-    (also (by-no-first (countOf image VlanLookup) _ _ (λ i. by-eq (vlanid image i) (vlanOf image port frame)))
+    (also (onward .0)
     (also (by-and _ _ (by-eq (pairAt frame 12) 0x8100) (by-not _ (by-eq (vmembPort image (placeOf image port frame) / 2 ^ port % 2) 1)))
-    (also (is-enforced image port frame)
-    (also (by-or _ _ (by-le (countOf image Policing) k) (by-le (countOf image Policing) (meterFor image port frame)))
-    (also (by-lt (maxlen image k) (octetsOf frame))
-    (also (by-lt (creditFor image port frame g time) (octetsOf frame * 8000000))
-    (also (by-eq (portsFor image port frame) 0) (also (by-none (cell g units (partition image k))) tt)))))))))))))))))
+    (also (is-enforced image port frame) (onward .1)))))))))))))
   where
     image : List ℕ
     image = imageIn buffer
 
-    k : ℕ
-    k = policerFor image port frame
+    -- 4, and 7 to 11, as of a replica on this VLAN and with this priority
+    onward : Decided (replicaPage image g port time frame (vlanOf image port frame) (priorityOf image port frame))
+        (replicaTests image g port time frame (vlanOf image port frame) (priorityOf image port frame))
+    onward = replica.decided image g port time frame (vlanOf image port frame) (priorityOf image port frame)
 
--- ---- steps 1 to 8 ask their tests in this order
+-- ---- what refuses a frame asks its tests in this order
+
+pub refusal-is : (buffer g : List ℕ) (port time : ℕ) (frame : List ℕ) → refusalOf buffer g port time frame ≡ refusedBy buffer g port time frame 0
+unfolding refusalOf standing unloaded
+refusal-is buffer g port time frame = go (tooShort buffer) (notLoaded (imageIn buffer)) (outOfRange (imageIn buffer) g) _
+  where
+    stands : Bool → Bool → Bool → ℕ
+    stands a b c = cond (eqb (cond a 31 (cond b 30 0)) 0) (cond c 39 0) (cond a 31 (cond b 30 0))
+
+    go : (a b c : Bool) (n : ℕ) → cond (eqb (stands a b c) 0) n (stands a b c) ≡ cond a 31 (cond b 30 (cond c 39 n))
+    go true b c n = refl
+    go false true c n = refl
+    go false false true n = refl
+    go false false false n = refl
+
+-- ---- and so do steps 1 to 6
 module _ (image : List ℕ) (port : ℕ) (frame : List ℕ) where
-  police-is : (vlan place priority : ℕ) → planOf image port frame vlan place priority ≡ policed image port frame vlan place priority
-  unfolding planOf policedOf
-  police-is vlan place priority = go (leb (countOf image Policing) k) (leb (countOf image Policing) (sharindx image k)) (ltb (maxlen image k) (octetsOf frame))
-    where
-      k : ℕ
-      k = policerOf port priority (destinationOf frame)
-
-      w : Course
-      w = courseOf image port (destinationOf frame) vlan place priority k (sharindx image k)
-
-      go : (a b c : Bool)
-          → byPolicer image port (destinationOf frame) vlan place priority (cond a Unmetered (cond b Unmetered (cond c TooLong (By k (sharindx image k)))))
-          ≡ cond (cond a true b) (Dropped 7) (cond c (Dropped 8) (Goes w))
-      go true b c = refl
-      go false true c = refl
-      go false false true = refl
-      go false false false = refl
-
   place-is : (vlan priority : ℕ) (tagged : Bool)
-      → byEntry image port frame (byPlace image port frame vlan priority tagged (placedOf image vlan)) ≡ placedBy image port frame vlan priority tagged
+      → byPlace image port frame vlan priority tagged (placedOf image vlan) ≡ placedBy image port frame vlan priority tagged
   unfolding placedOf keptOut
-  place-is vlan priority tagged = four (eqb place (countOf image VlanLookup))
+  place-is vlan priority tagged = four (noVlan image vlan)
     where
       place : ℕ
       place = vlanAt image vlan
 
       five : (a b : Bool)
-          → byEntry image port frame (cond (eqb (cond a 5 (cond b 6 0)) 0) (entered.In vlan place priority) (entered.Dropped (cond a 5 (cond b 6 0))))
-          ≡ cond a (Dropped 5) (cond b (Dropped 6) (policed image port frame vlan place priority))
+          → cond (eqb (cond a 5 (cond b 6 0)) 0) (entered.In vlan place priority) (entered.Dropped (cond a 5 (cond b 6 0)))
+          ≡ cond a (entered.Dropped 5) (cond b (entered.Dropped 6) (entered.In vlan place priority))
       five true b = refl
       five false true = refl
-      five false false = police-is vlan place priority
+      five false false = refl
 
       four : (t : Bool)
-          → byEntry image port frame (byPlace image port frame vlan priority tagged (cond t found.Absent (found.At place)))
-          ≡ cond t (Dropped 4)
-          (cond (outsider image port tagged place) (Dropped 5) (cond (barred image port vlan (sourceOf frame)) (Dropped 6) (policed image port frame vlan place priority)))
+          → byPlace image port frame vlan priority tagged (cond t found.Absent (found.At place))
+          ≡ cond t (entered.Dropped 4)
+          (cond (outsider image port tagged place) (entered.Dropped 5)
+          (cond (barred image port vlan (sourceOf frame)) (entered.Dropped 6) (entered.In vlan place priority)))
       four true = refl
       four false = five (outsider image port tagged place) (barred image port vlan (sourceOf frame))
 
-  -- 1 to 8: the first of their tests that holds drops the frame
-  pub plan-is : planFor image port frame
-      ≡ cond (ltb (octetsOf frame) 64) (Dropped 1)
-      (cond (eqb (ingress image port) 0) (Dropped 2)
-      (cond (untaggedDropped image port frame) (Dropped 3) (placedBy image port frame (vlanOf image port frame) (priorityOf image port frame) (hasTag frame))))
-  unfolding planFor enterOf intakeOf tagOf
-  plan-is = one (ltb (octetsOf frame) 64) (eqb (ingress image port) 0)
+  -- the first of their tests that holds drops the frame
+  pub enter-is : enterOf image port frame ≡ enteredBy image port frame
+  unfolding enterOf intakeOf tagOf
+  enter-is = one (ltb (octetsOf frame) 64) (eqb (ingress image port) 0)
     where
-      of : Intake → Planned
-      of q = byEntry image port frame (byIntake image port frame q)
+      of : Intake → Entered
+      of q = byIntake image port frame q
 
       untagged : (d : Bool)
           → of (cond d (intake.Dropped 3) (intake.Taken (portVlanid image port) (vlanprio image port) false))
-          ≡ cond d (Dropped 3) (placedBy image port frame (portVlanid image port) (vlanprio image port) false)
+          ≡ cond d (entered.Dropped 3) (placedBy image port frame (portVlanid image port) (vlanprio image port) false)
       untagged true = refl
       untagged false = place-is (portVlanid image port) (vlanprio image port) false
 
       three : (h : Bool)
           → of (byTag image port (cond h (tag.Tagged 12 (pairAt frame 14 / 8192 % 8) (tagVlan frame)) tag.Untagged))
-          ≡ cond (cond h false (not (eqb (drpuntag image port) 0))) (Dropped 3)
+          ≡ cond (cond h false (not (eqb (drpuntag image port) 0))) (entered.Dropped 3)
           (placedBy image port frame (cond h (vlanOr image port (tagVlan frame)) (portVlanid image port)) (cond h (pairAt frame 14 / 8192 % 8) (vlanprio image port)) h)
       three true = place-is (vlanOr image port (tagVlan frame)) (pairAt frame 14 / 8192 % 8) true
       three false = untagged (not (eqb (drpuntag image port) 0))
 
       one : (a b : Bool)
           → of (cond a (intake.Dropped 1) (cond b (intake.Dropped 2) (byTag image port (tagOf frame))))
-          ≡ cond a (Dropped 1)
-          (cond b (Dropped 2)
-          (cond (untaggedDropped image port frame) (Dropped 3)
+          ≡ cond a (entered.Dropped 1)
+          (cond b (entered.Dropped 2)
+          (cond (untaggedDropped image port frame) (entered.Dropped 3)
           (placedBy image port frame (vlanOf image port frame) (priorityOf image port frame) (hasTag frame))))
       one true b = refl
       one false true = refl

@@ -15,8 +15,8 @@ use Rattle.stream.specs.Order.{Piece, streamed, after}
 use Rattle.rules.specs.Rules.{ruled}
 use Rattle.ledger.specs.Row.{credit, since, cell}
 use Rattle.frame.specs.Bytes.{octetsOf}
-use Rattle.settle.specs.declared.Verdict.{Verdict}
 use Rattle.settle.specs.declared.Verdict.the-variants.{Drop}
+use Rattle.judge.specs.declared.Judgement.{Judgement}
 use Rattle.judge.specs.Judge.{Judges}
 use Rattle.exactly.specs.First.{NoneBefore}
 use Rattle.exactly.specs.Rules.{rulesPage}
@@ -38,9 +38,9 @@ pub record Meter (image g : List ℕ) (port time : ℕ) (frame : List ℕ) (most
   pub elapsed-is : time - cell g since (meterFor image port frame) ≡ elapsed
   pub octets-are : octetsOf frame ≡ octets
 
--- a frame's call, whatever verdict r its promise permits, that no clause of its page before number n refuses or drops
-pub record Reaches (buffer g : List ℕ) (port time : ℕ) (frame : List ℕ) (n : ℕ) (r : Verdict) (after : List ℕ) : Type 0 where
-  pub judged : Judges buffer g port time frame r after
+-- a frame's call, whatever answer r its promise permits, that no clause of its page before number n refuses or drops
+pub record Reaches (buffer g : List ℕ) (port time : ℕ) (frame places : List ℕ) (n : ℕ) (r : Judgement) (after told : List ℕ) : Type 0 where
+  pub judged : Judges buffer g port time frame places r after told
   pub past : NoneBefore n (framePage buffer g port time frame)
 
 -- a block of 07: its ID, its length told, and as many words
@@ -68,25 +68,25 @@ pub record ProvedTable : Type 0 where
   -- (g) 930: 24
   pub g : (image : List ℕ) → NoneBefore 24 (rulesPage image) → total 8 (λ j. partSpc image j) ≡ 930 → ruled image ≡ 24
   -- (h) credit 0, SMAX 64, RATE 64, L 64: short after 511 µs
-  pub h : (buffer row : List ℕ) (port time : ℕ) (frame : List ℕ) (r : Verdict) (left : List ℕ) → Reaches buffer row port time frame 9 r left
+  pub h : (buffer row : List ℕ) (port time : ℕ) (frame places : List ℕ) (r : Judgement) (left told : List ℕ) → Reaches buffer row port time frame places 9 r left told
       → Meter (imageIn buffer) row port time frame 64 64 0 511 64
-      → r ≡ Drop 9
+      → r .verdict ≡ Drop 9
   -- (i) passes after 512
-  pub i : (buffer row : List ℕ) (port time : ℕ) (frame : List ℕ) (r : Verdict) (left : List ℕ) → Reaches buffer row port time frame 9 r left
+  pub i : (buffer row : List ℕ) (port time : ℕ) (frame places : List ℕ) (r : Judgement) (left told : List ℕ) → Reaches buffer row port time frame places 9 r left told
       → Meter (imageIn buffer) row port time frame 64 64 0 512 64
-      → r ≡ Drop 9
+      → r .verdict ≡ Drop 9
       → ⊥
   -- (j) SMAX 63 never passes L 64
-  pub j : (buffer row : List ℕ) (port time : ℕ) (frame : List ℕ) (r : Verdict) (left : List ℕ) (gain old elapsed : ℕ)
-      → Reaches buffer row port time frame 9 r left
+  pub j : (buffer row : List ℕ) (port time : ℕ) (frame places : List ℕ) (r : Judgement) (left told : List ℕ) (gain old elapsed : ℕ)
+      → Reaches buffer row port time frame places 9 r left told
       → Meter (imageIn buffer) row port time frame 63 gain old elapsed 64
-      → r ≡ Drop 9
+      → r .verdict ≡ Drop 9
   -- (k) L 63 drops
-  pub k : (buffer row : List ℕ) (port time : ℕ) (frame : List ℕ) (r : Verdict) (left : List ℕ) → Reaches buffer row port time frame 1 r left
+  pub k : (buffer row : List ℕ) (port time : ℕ) (frame places : List ℕ) (r : Judgement) (left told : List ℕ) → Reaches buffer row port time frame places 1 r left told
       → octetsOf frame ≡ 63
-      → r ≡ Drop 1
+      → r .verdict ≡ Drop 1
   -- 64 goes on
-  pub k-on : (buffer row : List ℕ) (port time : ℕ) (frame : List ℕ) (r : Verdict) (left : List ℕ) → Reaches buffer row port time frame 1 r left
+  pub k-on : (buffer row : List ℕ) (port time : ℕ) (frame places : List ℕ) (r : Judgement) (left told : List ℕ) → Reaches buffer row port time frame places 1 r left told
       → octetsOf frame ≡ 64
-      → r ≡ Drop 1
+      → r .verdict ≡ Drop 1
       → ⊥

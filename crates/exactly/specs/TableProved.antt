@@ -28,8 +28,8 @@ use Rattle.rules.specs.Rules.{ruled}
 use Rattle.spend.specs.Meter.{refilled, cost}
 use Rattle.spend.specs.Proved.{row-h, row-i, row-j}
 use Rattle.frame.specs.Bytes.{octetsOf}
-use Rattle.settle.specs.declared.Verdict.{Verdict}
 use Rattle.settle.specs.declared.Verdict.the-variants.{Drop}
+use Rattle.judge.specs.declared.Judgement.{Judgement}
 use Rattle.exactly.specs.First.{First, At}
 use Rattle.exactly.specs.FirstLaws.{first-at, at-first}
 use Rattle.exactly.specs.Rules.{Over, rulesPage}
@@ -117,13 +117,13 @@ sum-passes image sum e =
     lt-irrefl 929 (subst (λ (n : ℕ). 929 < n) sum over)
 
 -- ---- (h) to (k)
-module _ (buffer row : List ℕ) (port time : ℕ) (frame : List ℕ) (r : Verdict) (left : List ℕ) where
+module _ (buffer row : List ℕ) (port time : ℕ) (frame places : List ℕ) (r : Judgement) (left told : List ℕ) where
   -- a frame that reaches n's clause has n's verdict exactly where the clause holds
-  drops : (n : ℕ) → Reaches buffer row port time frame n r left → At n (framePage buffer row port time frame) → r ≡ verdictBy buffer port frame n
-  drops n t a = first-that-applies buffer row port time frame r left (t .judged) .when n .0 (first-at (framePage buffer row port time frame) n (t .past) a)
+  drops : (n : ℕ) → Reaches buffer row port time frame places n r left told → At n (framePage buffer row port time frame) → r .verdict ≡ verdictBy buffer port frame n
+  drops n t a = first-that-applies buffer row port time frame places r left told (t .judged) .when n .0 (first-at (framePage buffer row port time frame) n (t .past) a)
 
-  dropped : (n : ℕ) → Reaches buffer row port time frame n r left → (n ≡ 0 → ⊥) → r ≡ verdictBy buffer port frame n → At n (framePage buffer row port time frame)
-  dropped n t z e = at-first (framePage buffer row port time frame) n refl z (first-that-applies buffer row port time frame r left (t .judged) .when n .1 e)
+  dropped : (n : ℕ) → Reaches buffer row port time frame places n r left told → (n ≡ 0 → ⊥) → r .verdict ≡ verdictBy buffer port frame n → At n (framePage buffer row port time frame)
+  dropped n t z e = at-first (framePage buffer row port time frame) n refl z (first-that-applies buffer row port time frame places r left told (t .judged) .when n .1 e)
 
   credit-is : (s g c e l : ℕ) → Meter (imageIn buffer) row port time frame s g c e l → creditFor (imageIn buffer) port frame row time ≡ refilled s g c e
   credit-is s g c e l m = λ i. refilled (m .smax-is i) (m .rate-is i) (m .credit-is i) (m .elapsed-is i)
@@ -132,15 +132,15 @@ module _ (buffer row : List ℕ) (port time : ℕ) (frame : List ℕ) (r : Verdi
   cost-is s g c e l m = ap cost (m .octets-are)
 
   -- the meter is short
-  is-short : (s g c e l : ℕ) → Reaches buffer row port time frame 9 r left → Meter (imageIn buffer) row port time frame s g c e l
+  is-short : (s g c e l : ℕ) → Reaches buffer row port time frame places 9 r left told → Meter (imageIn buffer) row port time frame s g c e l
       → ltb (refilled s g c e) (cost l) ≡ true
-      → r ≡ Drop 9
+      → r .verdict ≡ Drop 9
   is-short s g c e l t m short = drops 9 t (ltb-true _ _ (ap (λ (x : ℕ). ltb x (cost (octetsOf frame))) (credit-is s g c e l m) ∙ ap (ltb (refilled s g c e)) (cost-is s g c e l m) ∙ short))
 
   -- or it is not
-  not-short : (s g c e l : ℕ) → Reaches buffer row port time frame 9 r left → Meter (imageIn buffer) row port time frame s g c e l
+  not-short : (s g c e l : ℕ) → Reaches buffer row port time frame places 9 r left told → Meter (imageIn buffer) row port time frame s g c e l
       → ltb (refilled s g c e) (cost l) ≡ false
-      → r ≡ Drop 9
+      → r .verdict ≡ Drop 9
       → ⊥
   not-short s g c e l t m enough q =
       true≢false
@@ -149,10 +149,10 @@ module _ (buffer row : List ℕ) (port time : ℕ) (frame : List ℕ) (r : Verdi
       ∙ ap (ltb (refilled s g c e)) (cost-is s g c e l m)
       ∙ enough)
 
-  few : Reaches buffer row port time frame 1 r left → octetsOf frame ≡ 63 → r ≡ Drop 1
+  few : Reaches buffer row port time frame places 1 r left told → octetsOf frame ≡ 63 → r .verdict ≡ Drop 1
   few t e = drops 1 t (subst (λ (n : ℕ). n < 64) (sym e) (lit< tt))
 
-  enough : Reaches buffer row port time frame 1 r left → octetsOf frame ≡ 64 → r ≡ Drop 1 → ⊥
+  enough : Reaches buffer row port time frame places 1 r left told → octetsOf frame ≡ 64 → r .verdict ≡ Drop 1 → ⊥
   enough t e q = lt-irrefl 64 (subst (λ (n : ℕ). n < 64) e (dropped 1 t (eqb-false 1 0 refl) q))
 
 -- "One statement proves these eleven from the definitions"
@@ -166,9 +166,9 @@ proved-table =
       e = λ first second rest id long. wrong-first first second 8194 6 rest id long (eqb-false 8194 0 refl) six;
       f = sum-passes;
       g = λ image past sum. ruled-by image 24 (first-at (rulesPage image) 24 past (subst (λ (n : ℕ). 929 < n) (sym sum) (lit< tt)));
-      h = λ buffer row port time frame r left t m. is-short buffer row port time frame r left 64 64 0 511 64 t m row-h;
-      i = λ buffer row port time frame r left t m. not-short buffer row port time frame r left 64 64 0 512 64 t m row-i;
-      j = λ buffer row port time frame r left gain old elapsed t m. is-short buffer row port time frame r left 63 gain old elapsed 64 t m (row-j gain old elapsed);
+      h = λ buffer row port time frame places r left told t m. is-short buffer row port time frame places r left told 64 64 0 511 64 t m row-h;
+      i = λ buffer row port time frame places r left told t m. not-short buffer row port time frame places r left told 64 64 0 512 64 t m row-i;
+      j = λ buffer row port time frame places r left told gain old elapsed t m. is-short buffer row port time frame places r left told 63 gain old elapsed 64 t m (row-j gain old elapsed);
       k = few;
       k-on = enough;
     }
