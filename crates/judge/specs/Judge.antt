@@ -20,7 +20,7 @@ use Rattle.settle.specs.declared.Verdict.the-variants.{Refused, Drop, Sent}
 use Rattle.settle.specs.Settle.{Judged, judged, carriedOut}
 use Rattle.settle.specs.Note.{isDrop, noted}
 use Rattle.places.specs.Places.{laidOver}
-use Rattle.replica.specs.Replica.{Replicas, replicasOf}
+use Rattle.replica.specs.Replica.{Replicas, replicas, replicasOf}
 use Rattle.judge.specs.declared.Judgement.{Judgement}
 use Rattle.judge.specs.Refusal.{refusalOf}
 
@@ -62,6 +62,10 @@ pub record Called : Type 0 where
 
 abbrev pub called : Judged → Replicas → Called
 called j r = record { verdict = j .verdict; replicas = r .verdicts; row = r .row }
+
+-- a frame that has none
+abbrev pub byItself : Judged → Called
+byItself j = called j (replicas [] (j .row))
 
 -- "right after the original's": the replicas, on the row that the frame by itself leaves
 unfoldable pub callOf : List ℕ → List ℕ → ℕ → ℕ → List ℕ → Called

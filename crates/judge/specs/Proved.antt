@@ -1,12 +1,13 @@
 -- What pins a judgement: a refused one changes nothing and has no replica, a buffer's rest has no part in it, and a frame with no entry of 12 to name it is
 -- judged by itself.
 use mathlib.Core.Path.{_≡_, refl, _∙_, ap}
-use mathlib.Core.Bool.{Bool, cond}
+use mathlib.Core.Bool.{Bool, true, false, cond}
 use mathlib.Core.List.{List, []}
-use Prim.Native.Nat.{ℕ}
+use Prim.Native.Nat.{ℕ, _<_}
 use lib.Dec.{eqb}
 use borrow.Author.Tests.{ne-eqb}
-use Rattle.image.specs.Layout.{imageIn}
+use Rattle.image.specs.Layout.{imageIn, countOf}
+use Rattle.image.specs.declared.tables.Table.the-variants.{Retagging}
 use Rattle.image.specs.Loaded.{tooShort}
 use Rattle.ledger.specs.Range.{standing}
 use Rattle.ledger.specs.Proved.{same-standing}
@@ -16,9 +17,10 @@ use Rattle.plan.specs.declared.enter.Entered.the-variants as entered
 use Rattle.plan.specs.Enter.{enterOf}
 use Rattle.settle.specs.declared.Verdict.the-variants.{Refused}
 use Rattle.settle.specs.Settle.{Judged, judged, carriedOut}
-use Rattle.replica.specs.Replica.{replicas, replicasOf}
+use Rattle.replica.specs.Replica.{names, replicas, replicasOf}
+use Rattle.replica.specs.Proved.{none-named}
 use Rattle.judge.specs.Refusal.{unjudged, refusalOf}
-use Rattle.judge.specs.Judge.{planFor, notedOf, judgeOf, enteredOf, Called, called, callOf}
+use Rattle.judge.specs.Judge.{planFor, notedOf, judgeOf, enteredOf, Called, called, byItself, callOf}
 
 -- "call refusals .. change nothing"
 pub refused-unchanged : (buffer g : List ℕ) (port time : ℕ) (frame : List ℕ) → (refusalOf buffer g port time frame ≡ 0 → ⊥)
@@ -49,7 +51,7 @@ own-verdict buffer g port time frame = refl
 
 -- a refused frame has none, and the row stays
 pub refused-call : (buffer g : List ℕ) (port time : ℕ) (frame : List ℕ) → (refusalOf buffer g port time frame ≡ 0 → ⊥)
-    → callOf buffer g port time frame ≡ called (judged (Refused (refusalOf buffer g port time frame)) g) (replicas [] g)
+    → callOf buffer g port time frame ≡ byItself (judged (Refused (refusalOf buffer g port time frame)) g)
 unfolding callOf enteredOf
 refused-call buffer g port time frame h =
     ap (λ (t : Bool). whole (judgeOf buffer g port time frame) (cond t (enterOf (imageIn buffer) port frame) (entered.Dropped (refusalOf buffer g port time frame)))) (ne-eqb _ 0 h)
@@ -68,3 +70,24 @@ same-call a b long image g port time frame =
   where
     told : List ℕ → Judged → ℕ → Called
     told i j n = called j (replicasOf i (j .row) port time frame (cond (eqb n 0) (enterOf i port frame) (entered.Dropped n)))
+
+-- a frame whose VLAN and port no entry of 12 names
+pub no-match : (buffer g : List ℕ) (port time : ℕ) (frame : List ℕ)
+    → ((vlan place priority : ℕ) → enterOf (imageIn buffer) port frame ≡ entered.In vlan place priority → (i : ℕ) → i < countOf (imageIn buffer) Retagging
+    → names (imageIn buffer) port vlan i ≡ false)
+    → callOf buffer g port time frame ≡ byItself (judgeOf buffer g port time frame)
+unfolding callOf enteredOf
+no-match buffer g port time frame none = ap (called (judgeOf buffer g port time frame)) (by (eqb (refusalOf buffer g port time frame) 0))
+  where
+    let-in : (q : Entered) → enterOf (imageIn buffer) port frame ≡ q
+        → replicasOf (imageIn buffer) (judgeOf buffer g port time frame .row) port time frame q ≡ replicas [] (judgeOf buffer g port time frame .row)
+    let-in (entered.Dropped n) e = refl
+    let-in (entered.In vlan place priority) e =
+        none-named (imageIn buffer) (judgeOf buffer g port time frame .row) port time frame vlan priority (countOf (imageIn buffer) Retagging) (none vlan place priority e)
+
+    by : (t : Bool)
+        → replicasOf (imageIn buffer) (judgeOf buffer g port time frame .row) port time frame
+        (cond t (enterOf (imageIn buffer) port frame) (entered.Dropped (refusalOf buffer g port time frame)))
+        ≡ replicas [] (judgeOf buffer g port time frame .row)
+    by true = let-in (enterOf (imageIn buffer) port frame) refl
+    by false = refl

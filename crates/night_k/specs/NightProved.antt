@@ -22,9 +22,9 @@ use Rattle.row.specs.Fresh.{freshOf}
 use Rattle.row.specs.Release.{releaseRefusal, released}
 use Rattle.settle.specs.declared.Verdict.{Verdict}
 use Rattle.settle.specs.declared.Verdict.the-variants.{Drop, Sent}
-use Rattle.settle.specs.Settle.{Judged, judged}
+use Rattle.settle.specs.Settle.{judged}
 use Rattle.settle.specs.Note.{countsAt}
-use Rattle.judge.specs.Judge.{judgeOf}
+use Rattle.judge.specs.Judge.{Called, byItself, callOf}
 use Rattle.tile.specs.declared.shares.Tile.the-variants.{NoFrames, Shares}
 use Rattle.tile.specs.declared.shares.Asked.{Asked}
 use Rattle.tile.specs.declared.shares.Asked.the-variants.{Shown}
@@ -32,10 +32,11 @@ use Rattle.tile.specs.Tiles.{shareOf, tileAt, askedOf, bitsOf}
 use Rattle.kept.specs.History.{Event, frame, release, after}
 use Rattle.flat_answers.specs.declared.FlatVerdict.{FlatVerdict}
 use Rattle.flat_answers.specs.declared.FlatTile.{FlatTile}
+use Rattle.flat_answers.specs.Answers.{flatVerdict}
 use Rattle.flat_answers.specs.AnswersLaws.{shown-as}
 use Rattle.flat_numbers.specs.Flat.{numberOf}
 use Rattle.flat_loads.specs.Calls.{LoadsWords}
-use Rattle.nights.specs.Nights.{Said, verdict, answer, Night, NightOf, NightFlat, definedAnswers, AsDefined}
+use Rattle.nights.specs.Nights.{Heard, only, heardOf, Said, verdict, answer, Night, NightOf, NightFlat, definedAnswers, AsDefined}
 use Rattle.nights.specs.NightLaws.{as-defined, as-defined-flat, fresh-run-is}
 use Rattle.image.specs.Standing.{IsLoaded}
 use Rattle.records.specs.OfK.{listOfK}
@@ -65,50 +66,50 @@ bits-of-K = (
 -- ---- the four events
 module _ {Verdicts Answers : Type 0} (asVerdict : Verdict → Verdicts) (asAnswer : ℕ → Answers) (buffer : List ℕ) where
   -- the definitions say this to a history from row g on, and leave row z
-  record Tells (g : List ℕ) (es : List Event) (said : List (Said Verdicts Answers)) (z : List ℕ) : Type 0 where
-    says : definedAnswers asVerdict asAnswer buffer g es ≡ said
+  record Tells (g : List ℕ) (es : List Event) (said : List (Said (Heard Verdicts) Answers)) (z : List ℕ) : Type 0 where
+    says : definedAnswers (heardOf asVerdict) asAnswer buffer g es ≡ said
     leaves : after buffer g es ≡ z
 
-  judges : {g h z : List ℕ} {port time : ℕ} {bytes : List ℕ} {v : Verdict} {es : List Event} {said : List (Said Verdicts Answers)}
-      → judgeOf buffer g port time bytes ≡ judged v h
+  judges : {g h z : List ℕ} {port time : ℕ} {bytes : List ℕ} {v : Verdict} {es : List Event} {said : List (Said (Heard Verdicts) Answers)}
+      → callOf buffer g port time bytes ≡ byItself (judged v h)
       → Tells h es said z
-      → Tells g (frame port time bytes ∷ es) (verdict (asVerdict v) ∷ said) z
+      → Tells g (frame port time bytes ∷ es) (verdict (only (asVerdict v)) ∷ said) z
   judges {v = v} {es = es} e t =
       record {
         says =
-            ap (λ (j : Judged). verdict (asVerdict (j .verdict)) ∷ definedAnswers asVerdict asAnswer buffer (j .row) es) e
-            ∙ ap (λ (x : List (Said Verdicts Answers)). verdict (asVerdict v) ∷ x) (t .says);
-        leaves = ap (λ (j : Judged). after buffer (j .row) es) e ∙ t .leaves;
+            ap (λ (c : Called). verdict (heardOf asVerdict c) ∷ definedAnswers (heardOf asVerdict) asAnswer buffer (c .row) es) e
+            ∙ ap (λ (x : List (Said (Heard Verdicts) Answers)). verdict (only (asVerdict v)) ∷ x) (t .says);
+        leaves = ap (λ (c : Called). after buffer (c .row) es) e ∙ t .leaves;
       }
 
-  releases : {g h z : List ℕ} {partition n : ℕ} {es : List Event} {said : List (Said Verdicts Answers)} → releaseRefusal buffer g partition ≡ n
+  releases : {g h z : List ℕ} {partition n : ℕ} {es : List Event} {said : List (Said (Heard Verdicts) Answers)} → releaseRefusal buffer g partition ≡ n
       → released buffer g partition ≡ h
       → Tells h es said z
       → Tells g (release partition ∷ es) (answer (asAnswer n) ∷ said) z
   releases {g} {partition = partition} {n = n} {es = es} e q t =
       record {
         says =
-            ap (λ (m : ℕ). answer (asAnswer m) ∷ definedAnswers asVerdict asAnswer buffer (released buffer g partition) es) e
-            ∙ ap (λ (x : List ℕ). answer (asAnswer n) ∷ definedAnswers asVerdict asAnswer buffer x es) q
-            ∙ ap (λ (x : List (Said Verdicts Answers)). answer (asAnswer n) ∷ x) (t .says);
+            ap (λ (m : ℕ). answer (asAnswer m) ∷ definedAnswers (heardOf asVerdict) asAnswer buffer (released buffer g partition) es) e
+            ∙ ap (λ (x : List ℕ). answer (asAnswer n) ∷ definedAnswers (heardOf asVerdict) asAnswer buffer x es) q
+            ∙ ap (λ (x : List (Said (Heard Verdicts) Answers)). answer (asAnswer n) ∷ x) (t .says);
         leaves = ap (λ (x : List ℕ). after buffer x es) q ∙ t .leaves;
       }
 
   -- what they say to the events of K's list, and the row that they leave
   told : IsLoaded buffer → IsK (imageIn buffer) → Tells (freshOf (imageIn buffer)) (eventsIn listOfK)
-      (verdict (asVerdict (Sent sentOfK)) ∷ verdict (asVerdict (Drop 11)) ∷ answer (asAnswer 0) ∷ verdict (asVerdict (Drop 1)) ∷ []) ended
+      (verdict (only (asVerdict (Sent sentOfK))) ∷ verdict (only (asVerdict (Drop 11))) ∷ answer (asAnswer 0) ∷ verdict (only (asVerdict (Drop 1))) ∷ []) ended
   told l k =
       rw (events-of-K, fresh-row (imageIn buffer) k)
       (judges (first-frame buffer l k) (judges (second-frame buffer l k) (releases (release-done buffer l k) (release-left buffer l k) (judges (fourth-frame buffer l k) (record { says = refl; leaves = refl })))))
 
-module _ {Verdicts Answers Tiles : Type 0} {asVerdict : Verdict → Verdicts} {asAnswer : ℕ → Answers} {asTile : Asked → Tiles} {buffer : List ℕ}
-    {Fresh : Answers → List ℕ → Type 0} {Judge : List ℕ → ℕ → ℕ → List ℕ → Verdicts → List ℕ → Type 0} {Release : List ℕ → ℕ → Answers → List ℕ → Type 0}
-    {Tile : List ℕ → ℕ → Tiles → Type 0} (says : AsDefined asVerdict asAnswer asTile buffer Fresh Judge Release Tile) (l : IsLoaded buffer) (k : IsK (imageIn buffer))
+module _ {Verdicts Answers Tiles : Type 0} (asVerdict : Verdict → Verdicts) {asAnswer : ℕ → Answers} {asTile : Asked → Tiles} {buffer : List ℕ}
+    {Fresh : Answers → List ℕ → Type 0} {Judge : List ℕ → ℕ → ℕ → List ℕ → Heard Verdicts → List ℕ → Type 0} {Release : List ℕ → ℕ → Answers → List ℕ → Type 0}
+    {Tile : List ℕ → ℕ → Tiles → Type 0} (says : AsDefined (heardOf asVerdict) asAnswer asTile buffer Fresh Judge Release Tile) (l : IsLoaded buffer) (k : IsK (imageIn buffer))
     (Shows : ℕ → ℕ → Tiles → Type 0) (asShares : (x y : Float) (s o : ℕ) → Bits x s → Bits y o → Shows s o (asTile (Shown (Shares x y)))) where
   -- the output, in the entries' own form
-  output : {first : Answers} {g z : List ℕ} {said : List (Said Verdicts Answers)} {tile : ℕ → Tiles}
+  output : {first : Answers} {g z : List ℕ} {said : List (Said (Heard Verdicts) Answers)} {tile : ℕ → Tiles}
       → Night Fresh Judge Release Tile (eventsIn listOfK) first g said z tile
-      → Output (asVerdict (Sent sentOfK)) (λ (n : ℕ). asVerdict (Drop n)) (asAnswer 0) Shows (asTile (Shown NoFrames)) first said z tile
+      → Output (only (asVerdict (Sent sentOfK))) (λ (n : ℕ). only (asVerdict (Drop n))) (asAnswer 0) Shows (asTile (Shown NoFrames)) first said z tile
   unfolding row
   output {first} {g} {z} {said} {tile} n =
       let t = told asVerdict asAnswer buffer l k in
@@ -142,19 +143,19 @@ module _ {Verdicts Answers Tiles : Type 0} {asVerdict : Verdict → Verdicts} {a
 -- ---- a buffer that holds K's image
 module _ (buffer : List ℕ) (h : HoldsK buffer) where
   -- every permitted night of K's list says document 01's lines
-  pub night-under-K : {first : ledger.Answer} {g z : List ℕ} {said : List (Said Verdict ledger.Answer)} {tile : ℕ → Asked}
+  pub night-under-K : {first : ledger.Answer} {g z : List ℕ} {said : List (Said (Heard Verdict) ledger.Answer)} {tile : ℕ → Asked}
       → NightOf buffer (eventsIn listOfK) first g said z tile
       → OutputOf first said z tile
   night-under-K =
-      output (as-defined buffer) (holds-loaded buffer h) (holds-fields buffer h) ShowsBits
+      output (λ (v : Verdict). v) (as-defined buffer) (holds-loaded buffer h) (holds-fields buffer h) ShowsBits
       (λ x y s o p q. record { frame-share = x; octet-share = y; whole = refl; share-bits = p .are; octet-bits = q .are })
 
   -- and at the entries for C and Rust, by kinds and numbers
-  pub night-under-K-flat : {first : ℕ} {g z : List ℕ} {said : List (Said FlatVerdict ℕ)} {tile : ℕ → FlatTile}
+  pub night-under-K-flat : {first : ℕ} {g z : List ℕ} {said : List (Said (Heard FlatVerdict) ℕ)} {tile : ℕ → FlatTile}
       → NightFlat buffer (eventsIn listOfK) first g said z tile
       → OutputFlat first said z tile
   night-under-K-flat =
-      output (as-defined-flat buffer) (holds-loaded buffer h) (holds-fields buffer h) ShowsNumbers
+      output flatVerdict (as-defined-flat buffer) (holds-loaded buffer h) (holds-fields buffer h) ShowsNumbers
       (λ x y s o p q. shown-as _ _ _ _ (bits x s p) (bits y o q))
     where
       bits : (x : Float) (n : ℕ) → Bits x n → bitsOf x ≡ n
@@ -175,14 +176,14 @@ module _ (before : List ℕ) (room : tooShort before ≡ false) where
       (p .told ∙ ap (λ (w : Whole). numberOf (w .answer)) e, rw (p .kept, e) (holds-K (drop imageWords before)))
 
   -- document 01's whole output: a permitted load says "config loaded", and every permitted night behind it its other lines
-  pub night-of-K : {r : Answer} {after : List ℕ} → Ends (loadedWords before K) r after → {first : ledger.Answer} {g z : List ℕ} {said : List (Said Verdict ledger.Answer)}
+  pub night-of-K : {r : Answer} {after : List ℕ} → Ends (loadedWords before K) r after → {first : ledger.Answer} {g z : List ℕ} {said : List (Said (Heard Verdict) ledger.Answer)}
       {tile : ℕ → Asked}
       → NightOf after (eventsIn listOfK) first g said z tile
       → (r ≡ Loaded) × OutputOf first said z tile
   night-of-K {r} {after} p n = let e = load-of-K r after p in (e .0, night-under-K after (e .1) n)
 
   -- and at the entries for C and Rust, by kinds and numbers
-  pub night-of-K-flat : {r : ℕ} {after : List ℕ} → LoadsWords before K r after → {first : ℕ} {g z : List ℕ} {said : List (Said FlatVerdict ℕ)} {tile : ℕ → FlatTile}
+  pub night-of-K-flat : {r : ℕ} {after : List ℕ} → LoadsWords before K r after → {first : ℕ} {g z : List ℕ} {said : List (Said (Heard FlatVerdict) ℕ)} {tile : ℕ → FlatTile}
       → NightFlat after (eventsIn listOfK) first g said z tile
       → (r ≡ 0) × OutputFlat first said z tile
   night-of-K-flat {r} {after} p n = let e = load-of-K-flat r after p in (e .0, night-under-K-flat after (e .1) n)

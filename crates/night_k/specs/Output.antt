@@ -18,7 +18,7 @@ use Rattle.tile.specs.declared.shares.Asked.{Asked}
 use Rattle.tile.specs.declared.shares.Asked.the-variants.{Shown}
 use Rattle.flat_answers.specs.declared.FlatVerdict.{FlatVerdict}
 use Rattle.flat_answers.specs.declared.FlatTile.{FlatTile}
-use Rattle.nights.specs.Nights.{Said, verdict, answer}
+use Rattle.nights.specs.Nights.{Heard, only, Said, verdict, answer}
 
 -- a buffer with room, and configuration K's image in it
 pub record HoldsK (buffer : List ℕ) : Type 0 where
@@ -37,7 +37,7 @@ pub record Line {Tiles : Type 0} (Shows : ℕ → ℕ → Tiles → Type 0) (z :
   pub shares : Shows share octets (tile port)
 
 -- document 01's lines behind "config loaded", by the form in which the entries give a sent frame, a drop, what was done, two shares and no frames:
--- the fresh ledger; "frame 1 sent 30 ..", "frame 2 drop 11", "release 3 ok", "frame 4 drop 1"; the five tiles
+-- K has no entry of 12, so that no frame has a replica: the fresh ledger; "frame 1 sent 30 ..", "frame 2 drop 11", "release 3 ok", "frame 4 drop 1"; the five tiles
 pub record Output {Verdicts Answers Tiles : Type 0} (sent : Verdicts) (drop : ℕ → Verdicts) (done : Answers) (Shows : ℕ → ℕ → Tiles → Type 0) (noFrames : Tiles)
     (first : Answers) (said : List (Said Verdicts Answers)) (z : List ℕ) (tile : ℕ → Tiles) : Type 0 where
   pub fresh : first ≡ done
@@ -58,8 +58,8 @@ pub record ShowsBits (share octets : ℕ) (t : Asked) : Type 0 where
   pub octet-bits : toBits binary64 octet-share ≡ octets
 
 -- the lines of a night of them
-abbrev pub OutputOf : Answer → List (Said Verdict Answer) → List ℕ → (ℕ → Asked) → Type 0
-OutputOf = Output (Sent sentOfK) Drop Done ShowsBits (Shown NoFrames)
+abbrev pub OutputOf : Answer → List (Said (Heard Verdict) Answer) → List ℕ → (ℕ → Asked) → Type 0
+OutputOf = Output (only (Sent sentOfK)) (λ (n : ℕ). only (Drop n)) Done ShowsBits (Shown NoFrames)
 
 -- ---- at those for C and Rust, by kinds and numbers written out, so that no definition of theirs has a part in what is expected
 -- "sent 30 vlan 1 prio 0 tags 0 queues 0 0 0 0 0", kind 2
@@ -81,5 +81,5 @@ abbrev pub flatNoFrames : FlatTile
 flatNoFrames = record { kind = 2; number = 0; share = 0; octets = 0 }
 
 -- the lines of a night of them; a release that is done, and a fresh ledger that is given, answer 0
-abbrev pub OutputFlat : ℕ → List (Said FlatVerdict ℕ) → List ℕ → (ℕ → FlatTile) → Type 0
-OutputFlat = Output flatSentOfK flatDrop 0 ShowsNumbers flatNoFrames
+abbrev pub OutputFlat : ℕ → List (Said (Heard FlatVerdict) ℕ) → List ℕ → (ℕ → FlatTile) → Type 0
+OutputFlat = Output (only flatSentOfK) (λ (n : ℕ). only (flatDrop n)) 0 ShowsNumbers flatNoFrames

@@ -1,6 +1,6 @@
 -- K's night on literal rows: the fresh ledger, and each judgement, release and tile computed from the definitions. Here alone outside its crate is
 -- `judgeOf` opened, since a judgement is computed.
-use mathlib.Core.Path.{_≡_, refl, ap, subst}
+use mathlib.Core.Path.{_≡_, refl, _∙_, ap, subst}
 use mathlib.Core.Bool.{Bool, true, false, cond}
 use mathlib.Core.List.{List}
 use Prim.Native.Nat.{ℕ, zero, suc, _+_, _-_, _<_}
@@ -19,10 +19,11 @@ use Rattle.spend.specs.Spend.{paidOf, spentOf, countedOf}
 use Rattle.frame.specs.Bytes.{octetsOf}
 use Rattle.plan.specs.declared.Planned.{Planned}
 use Rattle.settle.specs.declared.Verdict.the-variants.{Drop, Sent}
-use Rattle.settle.specs.Settle.{Judged, judged, carriedOut, settledOf}
+use Rattle.settle.specs.Settle.{judged, carriedOut, settledOf}
 use Rattle.settle.specs.Note.{noted}
 use Rattle.judge.specs.Refusal.{unjudged, refusalOf}
-use Rattle.judge.specs.Judge.{planFor, notedOf, judgeOf}
+use Rattle.judge.specs.Judge.{planFor, notedOf, judgeOf, Called, byItself, callOf}
+use Rattle.judge.specs.Proved.{no-match}
 use Rattle.tile.specs.declared.shares.Asked.the-variants.{Shown}
 use Rattle.tile.specs.Tiles.{tileAt, askedOf}
 use Rattle.kept.specs.Kept.{Kept}
@@ -92,28 +93,30 @@ module _ (buffer : List ℕ) (l : IsLoaded buffer) (k : IsK (imageIn buffer)) wh
 
   judged-by : (g : List ℕ) (port time : ℕ) (bytes : List ℕ) (w : Planned) → Kept (imageIn buffer) g → unjudged g port time bytes ≡ 0
       → planFor (imageIn buffer) port bytes ≡ w
-      → judgeOf buffer g port time bytes ≡ notedOf port time (octetsOf bytes) (carriedOut g time (octetsOf bytes) w)
+      → callOf buffer g port time bytes ≡ byItself (notedOf port time (octetsOf bytes) (carriedOut g time (octetsOf bytes) w))
   unfolding judgeOf refusalOf
-  judged-by g port time bytes w p u e = rw (stands g p, u, e)
+  judged-by g port time bytes w p u e =
+      no-match buffer g port time bytes (λ vlan place priority q i h. absurd (let n = k .counts .retags in omega arith))
+      ∙ ap byItself (rw (stands g p, u, e))
 
   kept-begun : Kept (imageIn buffer) begun
   kept-begun = subst (Kept (imageIn buffer)) (fresh-row (imageIn buffer) k) (fresh-kept (imageIn buffer))
 
   -- "frame 1 sent 30 vlan 1 prio 0 tags 0 queues 0 0 0 0 0"
-  pub first-frame : judgeOf buffer begun 0 10 whole ≡ judged (Sent sentOfK) sentOne
+  pub first-frame : callOf buffer begun 0 10 whole ≡ byItself (judged (Sent sentOfK) sentOne)
   unfolding row settledOf spentOf paidOf noted countedOf
   first-frame = judged-by begun 0 10 whole _ kept-begun refl (goes (imageIn buffer) k)
 
   kept-sent : Kept (imageIn buffer) sentOne
-  kept-sent = leads begun sentOne (frame 0 10 whole) kept-begun (ap (λ (j : Judged). j .row) first-frame)
+  kept-sent = leads begun sentOne (frame 0 10 whole) kept-begun (ap (λ (c : Called). c .row) first-frame)
 
   -- "frame 2 drop 11"
-  pub second-frame : judgeOf buffer sentOne 0 20 whole ≡ judged (Drop 11) droppedOne
+  pub second-frame : callOf buffer sentOne 0 20 whole ≡ byItself (judged (Drop 11) droppedOne)
   unfolding row settledOf spentOf paidOf noted countedOf
   second-frame = judged-by sentOne 0 20 whole _ kept-sent refl (goes (imageIn buffer) k)
 
   kept-dropped : Kept (imageIn buffer) droppedOne
-  kept-dropped = leads sentOne droppedOne (frame 0 20 whole) kept-sent (ap (λ (j : Judged). j .row) second-frame)
+  kept-dropped = leads sentOne droppedOne (frame 0 20 whole) kept-sent (ap (λ (c : Called). c .row) second-frame)
 
   -- "release 3 ok"
   pub release-done : releaseRefusal buffer droppedOne 0 ≡ 0
@@ -129,12 +132,12 @@ module _ (buffer : List ℕ) (l : IsLoaded buffer) (k : IsK (imageIn buffer)) wh
   kept-freed = leads droppedOne freedOne (release 0) kept-dropped release-left
 
   -- "frame 4 drop 1"
-  pub fourth-frame : judgeOf buffer freedOne 1 30 short ≡ judged (Drop 1) ended
+  pub fourth-frame : callOf buffer freedOne 1 30 short ≡ byItself (judged (Drop 1) ended)
   unfolding row noted countedOf
   fourth-frame = judged-by freedOne 1 30 short _ kept-freed refl (too-few (imageIn buffer))
 
   kept-ended : Kept (imageIn buffer) ended
-  kept-ended = leads freedOne ended (frame 1 30 short) kept-freed (ap (λ (j : Judged). j .row) fourth-frame)
+  kept-ended = leads freedOne ended (frame 1 30 short) kept-freed (ap (λ (c : Called). c .row) fourth-frame)
 
   -- the tiles of the last row
   pub shows : (p : ℕ) → ltb 4 p ≡ false → askedOf buffer ended p ≡ Shown (tileAt ended p)

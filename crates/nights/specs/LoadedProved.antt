@@ -1,7 +1,7 @@
 -- Demand 1: an image that isn't loaded is never judged; and one that is loaded is never told 30.
 use mathlib.Core.Path.{_≡_, refl, sym, _∙_, ap}
 use mathlib.Core.Bool.{Bool, true, false, cond}
-use mathlib.Core.List.{List, []}
+use mathlib.Core.List.{List}
 use Prim.Native.Nat.{ℕ, _<_}
 use native.Mathlib.Nat.{le-of-suc-le-suc}
 use native.Mathlib.Omega.{arith}
@@ -22,10 +22,9 @@ use Rattle.settle.specs.declared.Verdict.the-variants.{Refused}
 use Rattle.settle.specs.Settle.{judged}
 use Rattle.places.specs.Places.{laidOver}
 use Rattle.places.specs.PlacesLaws.{laid-none}
-use Rattle.replica.specs.Replica.{replicas}
 use Rattle.judge.specs.Refusal.{mistimed, unjudged, refusalOf}
 use Rattle.judge.specs.declared.Judgement.{Judgement}
-use Rattle.judge.specs.Judge.{Called, called, callOf, answerOf as answerOfCall}
+use Rattle.judge.specs.Judge.{Called, byItself, callOf, answerOf as answerOfCall}
 use Rattle.judge.specs.Proved.{refused-call}
 use Rattle.tile.specs.declared.shares.Tile.the-variants.{NotLoaded, NoFrames, Shares}
 use Rattle.tile.specs.declared.shares.Asked.{Asked}
@@ -58,10 +57,10 @@ module _ (buffer : List ℕ) (u : Unloaded buffer) where
   unfolding releaseRefusal
   release-30 g partition = rw (standing-30 g)
 
-  called-30 : (g : List ℕ) (port time : ℕ) (frame : List ℕ) → callOf buffer g port time frame ≡ called (judged (Refused 30) g) (replicas [] g)
+  called-30 : (g : List ℕ) (port time : ℕ) (frame : List ℕ) → callOf buffer g port time frame ≡ byItself (judged (Refused 30) g)
   called-30 g port time frame =
       let e = refusal-30 g port time frame in
-      refused-call buffer g port time frame (λ z. absurd (omega arith)) ∙ ap (λ (n : ℕ). called (judged (Refused n) g) (replicas [] g)) e
+      refused-call buffer g port time frame (λ z. absurd (omega arith)) ∙ ap (λ (n : ℕ). byItself (judged (Refused n) g)) e
 
   kept-30 : (g : List ℕ) (partition : ℕ) → released buffer g partition ≡ g
   unfolding released

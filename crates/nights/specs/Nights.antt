@@ -21,6 +21,10 @@ pub record Heard (Verdicts : Type 0) : Type 0 where
   pub own : Verdicts
   pub replicas : List (List ℕ)
 
+-- a frame without replicas
+abbrev pub only : {Verdicts : Type 0} → Verdicts → Heard Verdicts
+only v = record { own = v; replicas = [] }
+
 -- what an event was answered: a frame its verdict and its replicas', a release its answer
 pub data Said (Verdicts Answers : Type 0) : Type 0 where
   verdict : Verdicts → Said Verdicts Answers

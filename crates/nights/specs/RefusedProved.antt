@@ -1,7 +1,7 @@
 -- Demand 1, of frames, releases and ledgers: what a refused call leaves, here and at the entries for C and Rust.
 use mathlib.Core.Path.{_≡_, refl, sym, _∙_, ap}
 use mathlib.Core.Bool.{true}
-use mathlib.Core.List.{List, []}
+use mathlib.Core.List.{List}
 use Prim.Native.Nat.{ℕ}
 use native.Mathlib.Omega.{arith}
 use lib.ListN.{length}
@@ -21,9 +21,8 @@ use Rattle.settle.specs.Settle.{Judged, judged}
 use Rattle.judge.specs.Refusal.{refusalOf}
 use Rattle.places.specs.Places.{laidOver}
 use Rattle.places.specs.PlacesLaws.{laid-none}
-use Rattle.replica.specs.Replica.{replicas}
 use Rattle.judge.specs.declared.Judgement.{Judgement}
-use Rattle.judge.specs.Judge.{judgeOf, Called, called, callOf, Judges}
+use Rattle.judge.specs.Judge.{judgeOf, Called, byItself, callOf, Judges}
 use Rattle.judge.specs.Cases.{by-cases}
 use Rattle.judge.specs.Proved.{own-verdict, refused-call}
 use Rattle.flat_answers.specs.Answers.{flatVerdict}
@@ -39,7 +38,7 @@ module _ (buffer g : List ℕ) (port time : ℕ) (frame : List ℕ) where
 
   -- a verdict of kind 0 is the refusal, with no replica and the row as it was
   pub as-it-was : flatVerdict (callOf buffer g port time frame .verdict) .kind ≡ 0
-      → callOf buffer g port time frame ≡ called (judged (Refused (refusalOf buffer g port time frame)) g) (replicas [] g)
+      → callOf buffer g port time frame ≡ byItself (judged (Refused (refusalOf buffer g port time frame)) g)
   as-it-was e =
       refused-call buffer g port time frame (refuses (ap (λ (v : Verdict). flatVerdict v .kind) (sym (own-verdict buffer g port time frame)) ∙ e))
 

@@ -21,8 +21,8 @@ use Rattle.ledger.specs.declared.Answer.the-variants as answered
 use Rattle.ledger.specs.Range.{outOfRange}
 use Rattle.row.specs.Fresh.{noLedger, Freshened}
 use Rattle.row.specs.Release.{Released}
-use Rattle.settle.specs.declared.Verdict.{Verdict}
 use Rattle.settle.specs.declared.Verdict.the-variants as verdict
+use Rattle.judge.specs.declared.Judgement.{Judgement}
 use Rattle.judge.specs.Judge.{Judges}
 use Rattle.loads.specs.Chains.{WriteChain}
 use Rattle.loads.specs.Refusals.{OneOf, RefusedWith, leaveAsFound}
@@ -103,13 +103,13 @@ rest-kept-by-a-write = rest.write-keeps-the-rest
 pub rest-kept-by-a-load : {buffer : List ℕ} {answer : Answer} {after : List ℕ} → WholeLoad buffer answer after → RestKept buffer after
 rest-kept-by-a-load = rest.whole-load-keeps-the-rest
 
--- ---- "a refused frame changes nothing"
+-- ---- "a refused frame changes nothing": it has no replica, and the row and the lent places are as found
 
-pub refused-frame-keeps-the-row : (buffer g : List ℕ) (port time : ℕ) (frame : List ℕ) (n : ℕ) (r : Verdict) (after : List ℕ)
-    → Judges buffer g port time frame r after
-    → r ≡ verdict.Refused n
-    → after ≡ g
-refused-frame-keeps-the-row = refused.refused-frame-keeps-the-row
+pub refused-frame-keeps-all : (buffer g : List ℕ) (port time : ℕ) (frame places : List ℕ) (n : ℕ) (r : Judgement) (after told : List ℕ)
+    → Judges buffer g port time frame places r after told
+    → r .verdict ≡ verdict.Refused n
+    → (r .replicas ≡ 0) × (after ≡ g) × (told ≡ places)
+refused-frame-keeps-all = refused.refused-frame-keeps-all
 
 pub refused-release-keeps-the-row : (buffer g : List ℕ) (partition n : ℕ) (r : ledger.Answer) (after : List ℕ) → Released buffer g partition r after
     → r ≡ answered.Refused n

@@ -21,6 +21,7 @@ use Rattle.ledger.specs.Range.{outOfRange}
 use Rattle.row.specs.Fresh.{Freshened}
 use Rattle.row.specs.Release.{Released}
 use Rattle.settle.specs.declared.Verdict.{Verdict}
+use Rattle.judge.specs.declared.Judgement.{Judgement}
 use Rattle.judge.specs.Judge.{Judges}
 use Rattle.tile.specs.declared.shares.Asked.{Asked}
 use Rattle.kept.specs.History.{Event}
@@ -33,8 +34,8 @@ use Rattle.exactly.specs.Steps.{framePage, verdictBy}
 use Rattle.exactly.specs.LoadProved as load
 use Rattle.exactly.specs.StepsProved as steps
 use Rattle.loads.specs.Given as given
-use Rattle.nights.specs.Nights.{Said, RunOf, NightOf}
-use Rattle.nights.specs.Sums.{kindOf, sumsOf, Shows}
+use Rattle.nights.specs.Nights.{Heard, Said, RunOf, NightOf}
+use Rattle.nights.specs.Sums.{kindOf, ownKind, kindsOf, sumsOf, Shows}
 use Rattle.nights.specs.SumsProved as sums
 use Rattle.nights.specs.Units.{doneOf, taken, returned}
 use Rattle.nights.specs.UnitsProved as parts
@@ -75,43 +76,44 @@ k-gets-0-and-its-tables before room r after p = let k = whole.load-of-K before r
 
 -- ---- its verdicts: a frame's page. "The first drop that applies is the verdict", and before it the first refusal
 
-pub first-that-applies : (buffer g : List ℕ) (port time : ℕ) (frame : List ℕ) (r : Verdict) (after : List ℕ) → Judges buffer g port time frame r after
-    → Exactly Verdict (First (framePage buffer g port time frame)) (verdictBy buffer port frame) r
+pub first-that-applies : (buffer g : List ℕ) (port time : ℕ) (frame places : List ℕ) (r : Judgement) (after told : List ℕ)
+    → Judges buffer g port time frame places r after told
+    → Exactly Verdict (First (framePage buffer g port time frame)) (verdictBy buffer port frame) (r .verdict)
 first-that-applies = steps.first-that-applies
 
--- ---- its partitions: over a night the units left and those taken are the configured space and those given back
+-- ---- its partitions: over a night the units left and those taken, by sent frames and sent replicas, are the configured space and those given back
 
-pub units-left-are-the-space-less-those-out : (buffer : List ℕ) (es : List Event) (g : List ℕ) (said : List (Said Verdict ledger.Answer)) (z : List ℕ)
+pub units-left-are-the-space-less-those-out : (buffer : List ℕ) (es : List Event) (g : List ℕ) (said : List (Said (Heard Verdict) ledger.Answer)) (z : List ℕ)
     → Freshened buffer Done g
     → RunOf buffer g es said z
     → (j : ℕ)
     → j < many units
-    → cell z units j + taken kindOf (imageIn buffer) j es said ≡ partSpc (imageIn buffer) j + returned doneOf j es said
+    → cell z units j + taken (kindsOf kindOf) (imageIn buffer) j es said ≡ partSpc (imageIn buffer) j + returned doneOf j es said
 units-left-are-the-space-less-those-out = parts.units-left-are-the-space-less-those-out
 
--- ---- its meters: a call changes only the SHARINDX entry's credit and time, and only from step 9 on
+-- ---- its meters: a call, its replicas included, changes only the SHARINDX entry's credit and time, and only from step 9 on
 
-pub only-the-own-meter : (buffer g : List ℕ) (port time : ℕ) (bytes : List ℕ) → length g ≡ cellCount → (r : Verdict) (after : List ℕ)
-    → Judges buffer g port time bytes r after
-    → Metered (imageIn buffer) g port time bytes (fromNine r) after
+pub only-the-own-meter : (buffer g : List ℕ) (port time : ℕ) (bytes : List ℕ) → length g ≡ cellCount → (places : List ℕ) (r : Judgement) (after told : List ℕ)
+    → Judges buffer g port time bytes places r after told
+    → Metered (imageIn buffer) g port time bytes (fromNine (r .verdict)) after
 only-the-own-meter = meters.only-the-own-meter
 
 pub release-moves-no-meter : (buffer g : List ℕ) (partition j : ℕ) → j < many credit → (r : ledger.Answer) (after : List ℕ) → Released buffer g partition r after
     → Unmoved g after j
 release-moves-no-meter = meters.release-moves-no-meter
 
--- ---- its tiles: over a night a port's tile is that of four plain sums over the verdicts. "A port with no frames shows no share", and no other port;
+-- ---- its tiles: over a night a port's tile is that of four plain sums over the verdicts, and "tiles count originals only". "A port with no frames shows no share", and no other port;
 -- "with frames and no drops both are +0"; a share is "the exact bits of that division"
 
-pub night-shows-the-sums : (buffer : List ℕ) (es : List Event) (g : List ℕ) (said : List (Said Verdict ledger.Answer)) (z : List ℕ) (tile : ℕ → Asked)
+pub night-shows-the-sums : (buffer : List ℕ) (es : List Event) (g : List ℕ) (said : List (Said (Heard Verdict) ledger.Answer)) (z : List ℕ) (tile : ℕ → Asked)
     → NightOf buffer es Done g said z tile
     → (p : ℕ)
     → p < 5
-    → Shows (sumsOf kindOf p es said) (tile p)
+    → Shows (sumsOf (ownKind kindOf) p es said) (tile p)
 night-shows-the-sums = sums.night-shows-the-sums
 
 -- a ledger that only permitted calls touched, from a fresh one on, is never refused with 39
-pub own-ledger-never-39 : (buffer : List ℕ) (es : List Event) (g : List ℕ) (said : List (Said Verdict ledger.Answer)) (z : List ℕ) → Freshened buffer Done g
+pub own-ledger-never-39 : (buffer : List ℕ) (es : List Event) (g : List ℕ) (said : List (Said (Heard Verdict) ledger.Answer)) (z : List ℕ) → Freshened buffer Done g
     → RunOf buffer g es said z
     → outOfRange (imageIn buffer) z ≡ false
 own-ledger-never-39 = range.own-ledger-never-39
@@ -119,7 +121,7 @@ own-ledger-never-39 = range.own-ledger-never-39
 -- ---- the night of K, whole: whatever a permitted load of K's stream leaves, and every permitted night of its list under it, is document 01's output
 
 pub night-of-K : (before : List ℕ) → tooShort before ≡ false → {r : Answer} {after : List ℕ} → EndsWords before K r after → {first : ledger.Answer} {g z : List ℕ}
-    {said : List (Said Verdict ledger.Answer)} {tile : ℕ → Asked}
+    {said : List (Said (Heard Verdict) ledger.Answer)} {tile : ℕ → Asked}
     → NightOf after (eventsIn listOfK) first g said z tile
     → (r ≡ Loaded) × OutputOf first said z tile
 night-of-K = whole.night-of-K

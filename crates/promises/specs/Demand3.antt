@@ -26,7 +26,7 @@ pub any-order-passes : {lists : List (List ℕ)} {ps qs : List Piece} (e0 e1 f0 
 any-order-passes = lists.any-order-passes
 
 -- two streams of these lists, as the writes cs and ds; two buffers with room; chains of permitted outcomes. Both get the lists' answer and image, with
--- the buffer's rest as it was; and if that answer is loaded, any two permitted nights of the same frames and releases are alike
+-- the buffer's rest as it was; and if that answer is loaded, any two permitted nights of the same frames and releases are alike, replicas included
 pub demand-3 : {lists : List (List ℕ)} {cs ds : List (List ℕ)} {a b : List ℕ} {v w : Written} → Sent lists cs → Sent lists ds → imageWords ≤ length a
     → imageWords ≤ length b
     → WriteChain (unwritten a) cs v

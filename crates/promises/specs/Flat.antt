@@ -12,6 +12,7 @@ use Rattle.row.specs.Fresh.{noLedger}
 use Rattle.flat_numbers.specs.Flat.{low, loadIn, FreshLoad}
 use Rattle.flat_answers.specs.declared.FlatVerdict.{FlatVerdict}
 use Rattle.flat_loads.specs.Calls.{FlatWritten, WritesFlat, LoadsWords, LoadsBytes}
+use Rattle.flat_frames.specs.declared.FlatJudged.{FlatJudged}
 use Rattle.flat_frames.specs.Frames.{FreshensFlat, JudgesFlat, ReleasesFlat}
 use Rattle.loads.specs.Chains.{WriteChainFlat, unwrittenFlat, AllWords, plain}
 use Rattle.loads.specs.Refusals.{OneOf, leaveAsFound}
@@ -36,8 +37,8 @@ use Rattle.exactly.specs.Load.{WordsPage, BytesPage}
 use Rattle.exactly.specs.Steps.{framePage, verdictBy}
 use Rattle.exactly.specs.LoadProved as load
 use Rattle.exactly.specs.StepsProved as steps
-use Rattle.nights.specs.Nights.{Said, RunFlat, NightFlat, AlikeFlat}
-use Rattle.nights.specs.Sums.{kindFlat, sumsOf, ShowsFlat}
+use Rattle.nights.specs.Nights.{Heard, Said, RunFlat, NightFlat, AlikeFlat}
+use Rattle.nights.specs.Sums.{kindFlat, ownKind, kindsOf, sumsOf, ShowsFlat}
 use Rattle.nights.specs.SumsProved as sums
 use Rattle.nights.specs.Units.{doneFlat, taken, returned}
 use Rattle.nights.specs.UnitsProved as parts
@@ -86,11 +87,11 @@ rest-kept-by-a-write-flat = rest.flat-write-keeps-the-rest
 pub rest-kept-by-a-load-flat : {buffer : List ℕ} {r : ℕ} {after : List ℕ} → WholeLoadFlat buffer r after → RestKept buffer after
 rest-kept-by-a-load-flat = rest.flat-whole-load-keeps-the-rest
 
-pub refused-frame-keeps-the-lent-ledger : (buffer g : List ℕ) (port time : ℕ) (frame : List ℕ) (r : FlatVerdict) (after : List ℕ)
-    → JudgesFlat buffer g port time frame r after
-    → r .kind ≡ 0
-    → after ≡ g
-refused-frame-keeps-the-lent-ledger = refused.refused-frame-keeps-the-lent-ledger
+pub refused-frame-keeps-all-lent : (buffer g : List ℕ) (port time : ℕ) (frame places : List ℕ) (r : FlatJudged) (after told : List ℕ)
+    → JudgesFlat buffer g port time frame places r after told
+    → r .verdict .kind ≡ 0
+    → (r .replicas ≡ 0) × (after ≡ g) × (told ≡ places)
+refused-frame-keeps-all-lent = refused.refused-frame-keeps-all-lent
 
 pub refused-release-keeps-the-lent-ledger : (buffer g : List ℕ) (partition r : ℕ) (after : List ℕ) → ReleasesFlat buffer g partition r after → (r ≡ 0 → ⊥)
     → after ≡ g
@@ -133,41 +134,42 @@ words-told-the-first-flat = load.words-told-the-first-flat
 pub bytes-told-the-first-flat : (buffer bytes : List ℕ) (r : ℕ) (after : List ℕ) → LoadsBytes buffer bytes r after → Exactly ℕ (BytesPage buffer bytes) (λ n. n) r
 bytes-told-the-first-flat = load.bytes-told-the-first-flat
 
-pub first-that-applies-flat : (buffer g : List ℕ) (port time : ℕ) (frame : List ℕ) (r : FlatVerdict) (after : List ℕ) → JudgesFlat buffer g port time frame r after
-    → Exactly FlatVerdict (First (framePage buffer g port time frame)) (λ n. flatVerdict (verdictBy buffer port frame n)) r
+pub first-that-applies-flat : (buffer g : List ℕ) (port time : ℕ) (frame places : List ℕ) (r : FlatJudged) (after told : List ℕ)
+    → JudgesFlat buffer g port time frame places r after told
+    → Exactly FlatVerdict (First (framePage buffer g port time frame)) (λ n. flatVerdict (verdictBy buffer port frame n)) (r .verdict)
 first-that-applies-flat = steps.first-that-applies-flat
 
-pub units-left-are-the-space-less-those-out-flat : (buffer : List ℕ) (es : List Event) (g : List ℕ) (said : List (Said FlatVerdict ℕ)) (z : List ℕ)
+pub units-left-are-the-space-less-those-out-flat : (buffer : List ℕ) (es : List Event) (g : List ℕ) (said : List (Said (Heard FlatVerdict) ℕ)) (z : List ℕ)
     → FreshensFlat buffer 0 g
     → RunFlat buffer g es said z
     → (j : ℕ)
     → j < many units
-    → cell z units j + taken kindFlat (imageIn buffer) j es said ≡ partSpc (imageIn buffer) j + returned doneFlat j es said
+    → cell z units j + taken (kindsOf kindFlat) (imageIn buffer) j es said ≡ partSpc (imageIn buffer) j + returned doneFlat j es said
 units-left-are-the-space-less-those-out-flat = parts.units-left-are-the-space-less-those-out-flat
 
-pub only-the-own-meter-flat : (buffer g : List ℕ) (port time : ℕ) (bytes : List ℕ) → length g ≡ cellCount → (r : FlatVerdict) (after : List ℕ)
-    → JudgesFlat buffer g port time bytes r after
-    → Metered (imageIn buffer) g port time bytes (fromNineFlat r) after
+pub only-the-own-meter-flat : (buffer g : List ℕ) (port time : ℕ) (bytes : List ℕ) → length g ≡ cellCount → (places : List ℕ) (r : FlatJudged) (after told : List ℕ)
+    → JudgesFlat buffer g port time bytes places r after told
+    → Metered (imageIn buffer) g port time bytes (fromNineFlat (r .verdict)) after
 only-the-own-meter-flat = meters.only-the-own-meter-flat
 
 pub release-moves-no-meter-flat : (buffer g : List ℕ) (partition j : ℕ) → j < many credit → (r : ℕ) (after : List ℕ) → ReleasesFlat buffer g partition r after
     → Unmoved g after j
 release-moves-no-meter-flat = meters.release-moves-no-meter-flat
 
-pub night-shows-the-sums-flat : (buffer : List ℕ) (es : List Event) (g : List ℕ) (said : List (Said FlatVerdict ℕ)) (z : List ℕ) (tile : ℕ → FlatTile)
+pub night-shows-the-sums-flat : (buffer : List ℕ) (es : List Event) (g : List ℕ) (said : List (Said (Heard FlatVerdict) ℕ)) (z : List ℕ) (tile : ℕ → FlatTile)
     → NightFlat buffer es 0 g said z tile
     → (p : ℕ)
     → p < 5
-    → ShowsFlat (sumsOf kindFlat p es said) (tile p)
+    → ShowsFlat (sumsOf (ownKind kindFlat) p es said) (tile p)
 night-shows-the-sums-flat = sums.night-shows-the-sums-flat
 
-pub own-ledger-never-39-flat : (buffer : List ℕ) (es : List Event) (g : List ℕ) (said : List (Said FlatVerdict ℕ)) (z : List ℕ) → FreshensFlat buffer 0 g
+pub own-ledger-never-39-flat : (buffer : List ℕ) (es : List Event) (g : List ℕ) (said : List (Said (Heard FlatVerdict) ℕ)) (z : List ℕ) → FreshensFlat buffer 0 g
     → RunFlat buffer g es said z
     → outOfRange (imageIn buffer) z ≡ false
 own-ledger-never-39-flat = range.own-ledger-never-39-flat
 
 pub night-of-K-flat : (before : List ℕ) → tooShort before ≡ false → {r : ℕ} {after : List ℕ} → LoadsWords before K r after → {first : ℕ} {g z : List ℕ}
-    {said : List (Said FlatVerdict ℕ)} {tile : ℕ → FlatTile}
+    {said : List (Said (Heard FlatVerdict) ℕ)} {tile : ℕ → FlatTile}
     → NightFlat after (eventsIn listOfK) first g said z tile
     → (r ≡ 0) × OutputFlat first said z tile
 night-of-K-flat = whole.night-of-K-flat

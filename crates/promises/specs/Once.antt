@@ -13,7 +13,7 @@ use Rattle.row.specs.Fresh.{Freshened}
 use Rattle.row.specs.FreshLaws as fresh
 use Rattle.row.specs.Release.{Released}
 use Rattle.row.specs.Proved as release
-use Rattle.settle.specs.declared.Verdict.{Verdict}
+use Rattle.judge.specs.declared.Judgement.{Judgement}
 use Rattle.judge.specs.Judge.{Judges}
 use Rattle.judge.specs.Laws as judge
 use Rattle.tile.specs.declared.shares.Asked.{Asked}
@@ -26,14 +26,15 @@ use Rattle.lent.specs.BringsLaws as lent
 use Rattle.records.specs.declared.Record.{Record}
 use Rattle.records.specs.Answer.{Reads}
 use Rattle.records.specs.Promises as records
-use Rattle.flat_answers.specs.declared.FlatVerdict.{FlatVerdict}
 use Rattle.flat_answers.specs.declared.FlatTile.{FlatTile}
 use Rattle.flat_lists.specs.declared.FlatRecord.{FlatRecord}
 use Rattle.flat_numbers.specs.Flat.{FreshLoad}
 use Rattle.flat_numbers.specs.FlatLaws as numbers
 use Rattle.flat_loads.specs.Calls.{WritesFlat, LoadsWords, LoadsBytes}
 use Rattle.flat_loads.specs.CallsLaws as loads
+use Rattle.flat_frames.specs.declared.FlatJudged.{FlatJudged}
 use Rattle.flat_frames.specs.Frames.{FreshensFlat, JudgesFlat, ReleasesFlat, TilesFlat}
+use Rattle.flat_frames.specs.declared.FlatJudged.{FlatJudged}
 use Rattle.flat_frames.specs.FramesLaws as frames
 use Rattle.flat_lists.specs.Lists.{RecordsFlat}
 use Rattle.flat_lists.specs.ListsLaws as lists
@@ -61,10 +62,10 @@ pub release-once : (buffer g : List ℕ) (partition : ℕ) (r s : ledger.Answer)
     → (r ≡ s) × (a ≡ b)
 release-once = release.one-release
 
--- `judge::judge`
-pub judge-once : (buffer g : List ℕ) (port time : ℕ) (frame : List ℕ) (r s : Verdict) (a b : List ℕ) → Judges buffer g port time frame r a
-    → Judges buffer g port time frame s b
-    → (r ≡ s) × (a ≡ b)
+-- `judge::judge`: the verdict with the number of replicas, the row, and the lent places
+pub judge-once : (buffer g : List ℕ) (port time : ℕ) (frame places : List ℕ) (r s : Judgement) (a b t u : List ℕ) → Judges buffer g port time frame places r a t
+    → Judges buffer g port time frame places s b u
+    → (r ≡ s) × (a ≡ b) × (t ≡ u)
 judge-once = judge.one-judgement
 
 -- `tile::tile`: the answer; the row is only read
@@ -104,9 +105,9 @@ pub tailbow-fresh-ledger-once : (buffer : List ℕ) (r s : ℕ) (a b : List ℕ)
 tailbow-fresh-ledger-once = frames.one-fresh
 
 -- `tailbow_judge`
-pub tailbow-judge-once : (buffer g : List ℕ) (port time : ℕ) (frame : List ℕ) (r s : FlatVerdict) (a b : List ℕ) → JudgesFlat buffer g port time frame r a
-    → JudgesFlat buffer g port time frame s b
-    → (r ≡ s) × (a ≡ b)
+pub tailbow-judge-once : (buffer g : List ℕ) (port time : ℕ) (frame places : List ℕ) (r s : FlatJudged) (a b t u : List ℕ) → JudgesFlat buffer g port time frame places r a t
+    → JudgesFlat buffer g port time frame places s b u
+    → (r ≡ s) × (a ≡ b) × (t ≡ u)
 tailbow-judge-once = frames.one-judged
 
 -- `tailbow_release`

@@ -1,6 +1,7 @@
 // The list of records: read whole, walked with one ledger, then the tiles.
 use crate::print;
 use ledger::CELLS;
+use places::PLACES;
 use records::Record;
 use records::Refusal;
 use row::fresh::fresh_ledger;
@@ -38,8 +39,14 @@ fn fill(buf: &mut [u8]) -> Filled
     }
 }
 
-// Each record in turn, and what it tells; the row is brought up to date by each. What is left of the walk ends it.
-fn records_of(image: &[u32], list: &[u8], row: &mut [u64; CELLS], broken: bool) {
+// Each record in turn, and what it tells, a frame's replicas right behind it; the row is brought up to date by each. What is left of the walk ends it.
+fn records_of(
+    image: &[u32],
+    list: &[u8],
+    row: &mut [u64; CELLS],
+    places: &mut [u64; PLACES],
+    broken: bool,
+) {
     let mut record: u64 = 1;
     let mut at: usize = records::FIRST;
     loop {
@@ -52,10 +59,10 @@ fn records_of(image: &[u32], list: &[u8], row: &mut [u64; CELLS], broken: bool) 
                 count: _,
                 next,
             } => {
-                print::verdict(
-                    record,
-                    judge::judge(image, row, port, time, &list[start..next]),
-                );
+                let j = judge::judge(image, row, port, time, &list[start..next], places);
+                let verdict = j.verdict;
+                print::verdict(record, verdict);
+                print::replicas(record, places, j.replicas);
                 at = next;
             }
             Record::Release { partition, next } => {
@@ -86,6 +93,13 @@ pub fn walk(image: &[u32]) {
     }
     let mut cells = [0u64; CELLS];
     fresh_ledger(image, &mut cells);
-    records_of(image, &list[..count], &mut cells, filled.broken);
+    let mut places = [0u64; PLACES];
+    records_of(
+        image,
+        &list[..count],
+        &mut cells,
+        &mut places,
+        filled.broken,
+    );
     print::tiles(image, &cells);
 }

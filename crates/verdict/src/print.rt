@@ -4,15 +4,21 @@ use ledger::CELLS;
 use ledger::DROPS;
 use ledger::FRAMES;
 use libc::STDOUT_FILENO;
+use places::PLACES;
+use places::TEN;
 use records::Refusal;
 use settle::Verdict;
 use tile::shares::Asked;
 use tile::shares::Tile;
+ghost use Prim.Native.Nat.{_+_, _≤_};
 
 // '#' stands for a number in decimal, '@' for the 16 hexadecimal digits of a float's bits.
 const DECIMAL: u8 = 0x23;
 
 const BITS: u8 = 0x40;
+
+// As many replicas as there are places.
+const MOST_REPLICAS: usize = 32;
 
 // A pattern with a number in the place of each mark.
 fn line(pattern: &[u8], numbers: &[u64]) {
@@ -78,6 +84,44 @@ pub fn verdict(record: u64, v: Verdict) {
                 s.queue4,
             ],
         ),
+    }
+}
+
+// A replica's line from its ten numbers, which are never a refusal's.
+fn replica(record: u64, places: &[u64; PLACES], at: usize)
+    requires { ⌜ at + 10 ≤ 320 ⌝ }
+{
+    let head = places[at];
+    if head % 4294967296 == 1 {
+        line(b"replica # drop #\n", &[record, head >> 32]);
+        return;
+    }
+    line(
+        b"replica # sent # vlan # prio # tags # queues # # # # #\n",
+        &[
+            record,
+            places[at + 1],
+            places[at + 2],
+            places[at + 3],
+            places[at + 4],
+            places[at + 5],
+            places[at + 6],
+            places[at + 7],
+            places[at + 8],
+            places[at + 9],
+        ],
+    );
+}
+
+// The replicas of a frame, right behind it, under its record's number.
+pub fn replicas(record: u64, places: &[u64; PLACES], count: usize) {
+    let mut i: usize = 0;
+    while i < count {
+        if MOST_REPLICAS <= i {
+            return;
+        }
+        replica(record, places, TEN * i);
+        i += 1;
     }
 }
 
