@@ -1,3 +1,4 @@
 -- Verdicts in lent places.
 pub mod Places
 pub mod PlacesLaws
+pub mod Proved

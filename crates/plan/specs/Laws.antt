@@ -68,13 +68,14 @@ policed image port priority destination octets = by (leb (countOf image Policing
     by true e = tt
     by false e = seven (leb-false (countOf image Policing) k (sym e)) (leb (countOf image Policing) m) refl
 
+-- a plan by what 7 and 8 answered
+pub follows-by : (image : List ℕ) (port destination vlan place priority : ℕ) (q : Policed) → Loaded image q → Follows image (byPolicer image port destination vlan place priority q)
+unfolding courseOf
+follows-by image port destination vlan place priority Unmetered l = tt
+follows-by image port destination vlan place priority TooLong l = tt
+follows-by image port destination vlan place priority (By policer meter) l =
+    record { meter = l .1; own = refl; smax = mod-lt _ (pow-pos 16); rate = mod-lt _ (pow-pos 16); partition = mod-lt _ (pow-pos 3) }
+
 pub follows : (image : List ℕ) (port : ℕ) (frame : List ℕ) (vlan place priority : ℕ) → Follows image (planOf image port frame vlan place priority)
-unfolding planOf courseOf
-follows image port frame vlan place priority =
-    go (policedOf image port priority (destinationOf frame) (octetsOf frame)) (policed image port priority (destinationOf frame) (octetsOf frame))
-  where
-    go : (q : Policed) → Loaded image q → Follows image (byPolicer image port (destinationOf frame) vlan place priority q)
-    go Unmetered l = tt
-    go TooLong l = tt
-    go (By policer meter) l =
-        record { meter = l .1; own = refl; smax = mod-lt _ (pow-pos 16); rate = mod-lt _ (pow-pos 16); partition = mod-lt _ (pow-pos 3) }
+unfolding planOf
+follows image port frame vlan place priority = follows-by image port (destinationOf frame) vlan place priority (policedOf image port priority (destinationOf frame) (octetsOf frame)) (policed image port priority (destinationOf frame) (octetsOf frame))

@@ -10,7 +10,7 @@ ghost use Rattle.image.specs.Layout.{imageIn, countOf};
 ghost use Rattle.image.specs.Sound.{Sound};
 ghost use Rattle.image.specs.declared.tables.Table.the-variants.{Policing, VlanLookup};
 ghost use Rattle.plan.specs.LetIn.{LetIn};
-ghost use Rattle.plan.specs.Police.{policerOf, meteredBy, policedBy};
+ghost use Rattle.plan.specs.Police.{policerOf, meteredBy, policedBy, policedOf};
 ghost use Rattle.plan.specs.Plan.{byPolicer, planOf};
 ghost use Rattle.plan.specs.Sane.{Loaded};
 
@@ -72,7 +72,18 @@ fn policed_by(image: &[u32], policer: usize, octets: u64) -> Policed
     metered(image, policer, meter, octets)
 }
 
-fn by_policer(
+// Steps 7 and 8 by a frame's port, priority, destination and octets: they ask no VLAN.
+pub fn police(image: &[u32], port: usize, priority: u64, destination: u64, octets: u64) -> Policed
+    requires { ⌜ Sound (now image) ⌝ }
+    requires { ⌜ (port < 5) × (priority < 8) ⌝ }
+    ensures { λ r. ⌜ r ≡ policedOf (imageIn (now (image .entry))) port priority destination octets ⌝ }
+{
+    let policer = policer_of(port, priority, destination);
+    policed_by(image, policer, octets)
+}
+
+// What 7 and 8 answered drops, or the course of the rest on a VLAN.
+pub fn by_policer(
     image: &[u32],
     port: usize,
     destination: u64,
@@ -119,7 +130,6 @@ pub fn plan(
 {
     let destination = frame::mac_at(frame, 0);
     let octets = frame.len() as u64 + 4;
-    let policer = policer_of(port, priority, destination);
-    let policed = policed_by(image, policer, octets);
+    let policed = police(image, port, priority, destination, octets);
     by_policer(image, port, destination, vlan, place, priority, policed)
 }

@@ -72,9 +72,10 @@ judge-once = judge.one-judgement
 pub tile-once : (buffer g : List ℕ) (port : ℕ) (r s : Asked) → Tiled buffer g port r → Tiled buffer g port s → r ≡ s
 tile-once = tile.one-answer
 
--- `lent::step`, `lent::bring` and `lent::bring_once`, which have one promise
-pub bring-once : (buffer g : List ℕ) (event : Event) (frame : List ℕ) (r s : Told) (a b : List ℕ) → Brings buffer g event frame r a → Brings buffer g event frame s b
-    → (r ≡ s) × (a ≡ b)
+-- `lent::step`, `lent::bring` and `lent::bring_once`, which have one promise: the answer, the whole row and the lent places
+pub bring-once : (buffer g : List ℕ) (event : Event) (frame places : List ℕ) (r s : Told) (a b t u : List ℕ) → Brings buffer g event frame places r a t
+    → Brings buffer g event frame places s b u
+    → (r ≡ s) × (a ≡ b) × (t ≡ u)
 bring-once = lent.one-told
 
 -- `reader::next` and `reader::record_from`, which have one promise: the answer; the list is only read

@@ -17,7 +17,8 @@ use Rattle.plan.specs.declared.enter.Entered.the-variants as entered
 use Rattle.plan.specs.Steps.{placedOf}
 use Rattle.plan.specs.declared.Planned.{Planned}
 use Rattle.plan.specs.declared.Planned.the-variants.{Dropped}
-use Rattle.plan.specs.Plan.{planOf}
+use Rattle.plan.specs.declared.Policed.{Policed}
+use Rattle.plan.specs.Plan.{byPolicer, planOf}
 use Rattle.settle.specs.declared.Verdict.{Verdict}
 use Rattle.settle.specs.Settle.{Judged, carriedOut}
 use Rattle.places.specs.Places.{laidOver}
@@ -25,6 +26,14 @@ use Rattle.places.specs.Places.{laidOver}
 -- "on a VLAN and port named by an entry": entry i's VLAN_ING is the VLAN, and its ING_PORT has the port
 abbrev pub names : List ℕ → ℕ → ℕ → ℕ → Bool
 names image port vlan i = cond (not (eqb (vlanIng image i) vlan)) false (holds (ingPort image i) port)
+
+-- a plan on a VLAN by what 7 and 8 answered, which ask no VLAN: 4 first
+abbrev pub byPoliced : List ℕ → ℕ → ℕ → ℕ → ℕ → Policed → Placed → Planned
+byPoliced image port destination vlan priority policed Absent = Dropped 4
+byPoliced image port destination vlan priority policed (At place) = byPolicer image port destination vlan place priority policed
+
+unfoldable pub plannedBy : List ℕ → ℕ → ℕ → ℕ → ℕ → Policed → Planned
+plannedBy image port destination vlan priority policed = byPoliced image port destination vlan priority policed (placedOf image vlan)
 
 -- "runs steps 4 and 7 to 11": 4 by its answer, then the plan that a frame on this VLAN has
 abbrev pub byPlaced : List ℕ → ℕ → List ℕ → ℕ → ℕ → Placed → Planned

@@ -11,7 +11,7 @@ use Rattle.image.specs.Layout.{imageIn, countOf}
 use Rattle.image.specs.Sound.{Sound}
 use Rattle.image.specs.declared.tables.Table.the-variants.{Retagging}
 use Rattle.fields.specs.Fields.{vlanEgr}
-use Rattle.frame.specs.Bytes.{octetsOf}
+use Rattle.frame.specs.Bytes.{octetsOf, destinationOf}
 use Rattle.plan.specs.declared.enter.Placed.{Placed}
 use Rattle.plan.specs.declared.enter.Placed.the-variants.{Absent, At}
 use Rattle.plan.specs.declared.enter.Entered.{Entered}
@@ -19,15 +19,19 @@ use Rattle.plan.specs.declared.enter.Entered.the-variants as entered
 use Rattle.plan.specs.Steps.{placedOf}
 use Rattle.plan.specs.declared.Planned.{Planned}
 use Rattle.plan.specs.declared.Planned.the-variants.{Dropped}
-use Rattle.plan.specs.Plan.{planOf}
-use Rattle.plan.specs.Sane.{Follows}
-use Rattle.plan.specs.Laws.{follows}
+use Rattle.plan.specs.declared.Policed.{Policed}
+use Rattle.plan.specs.Police.{policedOf}
+use Rattle.plan.specs.Plan.{byPolicer, planOf}
+use Rattle.plan.specs.Sane.{Loaded, Follows}
+use Rattle.plan.specs.Laws.{follows-by, follows}
 use Rattle.settle.specs.declared.Verdict.{Verdict}
+use Rattle.settle.specs.Runs.{RunsAll}
+use Rattle.settle.specs.RunsLaws.{plan-runs}
 use Rattle.settle.specs.Settle.{Judged, judged, carriedOut, Carries}
 use Rattle.places.specs.Places.{putIn, laidOver}
 use Rattle.places.specs.PlacesLaws.{laid-none, laid-more}
 use Rattle.replica.specs.Replicating.{Replicating}
-use Rattle.replica.specs.Replica.{names, byPlaced, replicaPlan, Replicas, replicas, replicaOn, joined, replicasTo, replicasIn, replicasOf, Replicates}
+use Rattle.replica.specs.Replica.{names, byPoliced, plannedBy, byPlaced, replicaPlan, Replicas, replicas, replicaOn, joined, replicasTo, replicasIn, replicasOf, Replicates}
 
 -- ---- a replica's plan
 
@@ -39,21 +43,62 @@ replica-follows image port frame vlan priority = go (placedOf image vlan)
     go Absent = tt
     go (At place) = follows image port frame vlan place priority
 
--- by a place p that a call handed over
-pub is-absent : (image : List ℕ) (port : ℕ) (frame : List ℕ) (vlan priority : ℕ) (p : Placed) → p ≡ placedOf image vlan → p ≡ Absent
-    → Dropped 4 ≡ replicaPlan image port frame vlan priority
-unfolding replicaPlan
-is-absent image port frame vlan priority p e h = ap (byPlaced image port frame vlan priority) (sym h ∙ e)
+-- it is the one by what 7 and 8 answer of the frame
+planned-is : (image : List ℕ) (port : ℕ) (frame : List ℕ) (vlan priority : ℕ)
+    → plannedBy image port (destinationOf frame) vlan priority (policedOf image port priority (destinationOf frame) (octetsOf frame)) ≡ replicaPlan image port frame vlan priority
+unfolding plannedBy replicaPlan planOf
+planned-is image port frame vlan priority = go (placedOf image vlan)
+  where
+    go : (p : Placed)
+        → byPoliced image port (destinationOf frame) vlan priority (policedOf image port priority (destinationOf frame) (octetsOf frame)) p
+        ≡ byPlaced image port frame vlan priority p
+    go Absent = refl
+    go (At place) = refl
 
-pub is-planned : (image : List ℕ) (port : ℕ) (frame : List ℕ) (vlan priority : ℕ) (p : Placed) (place : ℕ) (r : Planned) → p ≡ placedOf image vlan → p ≡ At place
-    → r ≡ planOf image port frame vlan place priority
-    → r ≡ replicaPlan image port frame vlan priority
-unfolding replicaPlan
-is-planned image port frame vlan priority p place r e h q = q ∙ ap (byPlaced image port frame vlan priority) (sym h ∙ e)
+planned-follows : (image : List ℕ) (port destination vlan priority : ℕ) (q : Policed) → Loaded image q → Follows image (plannedBy image port destination vlan priority q)
+unfolding plannedBy
+planned-follows image port destination vlan priority q l = go (placedOf image vlan)
+  where
+    go : (p : Placed) → Follows image (byPoliced image port destination vlan priority q p)
+    go Absent = tt
+    go (At place) = follows-by image port destination vlan place priority q l
+
+-- by a plan r that a call handed over
+pub planned-runs : (buffer : List ℕ) (port destination vlan priority : ℕ) (q : Policed) (r : Planned) → Sound buffer → Loaded (imageIn buffer) q
+    → r ≡ plannedBy (imageIn buffer) port destination vlan priority q
+    → RunsAll r
+planned-runs buffer port destination vlan priority q r s l e = plan-runs buffer r _ s e (planned-follows (imageIn buffer) port destination vlan priority q l)
+
+-- by a place p that a call handed over
+pub is-absent : (image : List ℕ) (port destination vlan priority : ℕ) (q : Policed) (p : Placed) → p ≡ placedOf image vlan → p ≡ Absent
+    → Dropped 4 ≡ plannedBy image port destination vlan priority q
+unfolding plannedBy
+is-absent image port destination vlan priority q p e h = ap (byPoliced image port destination vlan priority q) (sym h ∙ e)
+
+pub is-planned : (image : List ℕ) (port destination vlan priority : ℕ) (q : Policed) (p : Placed) (place : ℕ) (r : Planned) → p ≡ placedOf image vlan → p ≡ At place
+    → r ≡ byPolicer image port destination vlan place priority q
+    → r ≡ plannedBy image port destination vlan priority q
+unfolding plannedBy
+is-planned image port destination vlan priority q p place r e h x = x ∙ ap (byPoliced image port destination vlan priority q) (sym h ∙ e)
 
 -- and what it comes to
 pub carries-as : (g : List ℕ) (time l : ℕ) (p q : Planned) (r : Verdict) (after : List ℕ) → p ≡ q → Carries g time l p r after → Carries g time l q r after
 carries-as g time l p q r after e c = subst (λ (x : Planned). Carries g time l x r after) e c
+
+-- of the frame's destination, octets and what 7 and 8 answered of it
+pub carries-replica : (image g : List ℕ) (port time : ℕ) (frame : List ℕ) (vlan priority destination octets : ℕ) (q : Policed) (r : Verdict) (after : List ℕ)
+    → destination ≡ destinationOf frame
+    → octets ≡ octetsOf frame
+    → q ≡ policedOf image port priority destination octets
+    → Carries g time octets (plannedBy image port destination vlan priority q) r after
+    → Carries g time (octetsOf frame) (replicaPlan image port frame vlan priority) r after
+carries-replica image g port time frame vlan priority destination octets q r after d l e c =
+    subst (λ (x : ℕ). Carries g time x (replicaPlan image port frame vlan priority) r after) l
+    (carries-as g time octets _ _ r after
+    (ap (plannedBy image port destination vlan priority) e
+    ∙ ap (λ (x : ℕ). plannedBy image port x vlan priority (policedOf image port priority x octets)) d
+    ∙ ap (λ (x : ℕ). plannedBy image port (destinationOf frame) vlan priority (policedOf image port priority (destinationOf frame) x)) l
+    ∙ planned-is image port frame vlan priority) c)
 
 -- ---- entry after entry
 
@@ -157,6 +202,11 @@ module _ {image g : List ℕ} {port time : ℕ} {frame : List ℕ} {vlan priorit
       → Replicates (replicasIn image g port time frame vlan priority) before n row places
   replicating-end row places entries n i r h e =
       subst (λ (k : ℕ). Replicates (replicasTo image g port time frame vlan priority k) before n row places) (let w = r .within in omega (arith, w, h, e)) (r .so-far)
+
+-- no entry at all
+pub replicating-no : (image g : List ℕ) (port time : ℕ) (frame : List ℕ) (vlan priority : ℕ) (before : List ℕ) (entries : ℕ) → entries ≡ countOf image Retagging → entries ≡ 0
+    → Replicates (replicasIn image g port time frame vlan priority) before 0 g before
+replicating-no image g port time frame vlan priority before entries e z = replicating-end g before 0 0 0 (replicating-none 0) zero-le (sym z ∙ e)
 
 -- ---- by what steps 1 to 6 answered
 

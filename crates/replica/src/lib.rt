@@ -3,6 +3,7 @@ use addresses::holds;
 use image::tables::Table;
 use ledger::CELLS;
 use plan::Planned;
+use plan::Policed;
 use plan::enter::Entered;
 use plan::enter::Placed;
 use settle::Verdict;
@@ -13,10 +14,10 @@ ghost use lib.ListN.{length};
 ghost use Rattle.image.specs.Layout.{Held, imageIn};
 ghost use Rattle.image.specs.Sound.{Sound};
 ghost use Rattle.image.specs.declared.tables.Table.the-variants.{Retagging};
-ghost use Rattle.frame.specs.Bytes.{octetsOf};
 ghost use Rattle.plan.specs.LetIn.{Through};
+ghost use Rattle.plan.specs.Sane.{Loaded};
 ghost use Rattle.settle.specs.Settle.{Carries};
-ghost use Rattle.replica.specs.Replica.{names, replicaPlan, replicasIn, replicasOf, Replicates};
+ghost use Rattle.replica.specs.Replica.{names, plannedBy, replicasIn, replicasOf, Replicates};
 
 // Does entry i name the VLAN and the port?
 fn names(image: &[u32], port: usize, vlan: u64, i: usize) -> bool
@@ -30,17 +31,25 @@ fn names(image: &[u32], port: usize, vlan: u64, i: usize) -> bool
     holds(fields::retagging::ing_port(image, i), port)
 }
 
-// Step 4, then 7 and 8, on a VLAN of its own: membership and the source are not asked.
-fn plan_on(image: &[u32], port: usize, frame: &[u8], vlan: u64, priority: u64) -> Planned
+// Step 4 on a VLAN of its own, then what 7 and 8 answered of the frame: membership and the source are not asked.
+fn plan_on(
+    image: &[u32],
+    port: usize,
+    destination: u64,
+    vlan: u64,
+    priority: u64,
+    policed: Policed,
+) -> Planned
     requires { ⌜ Sound (now image) ⌝ }
-    requires { ⌜ (port < 5) × (60 ≤ length (now frame)) × (priority < 8) ⌝ }
-    ensures { λ r. ⌜ r ≡ replicaPlan (imageIn (now (image .entry))) port (now (frame .entry)) vlan priority ⌝ }
+    requires { ⌜ (port < 5) × (priority < 8) ⌝ }
+    requires { ⌜ Loaded (imageIn (now image)) policed ⌝ }
+    ensures { λ r. ⌜ r ≡ plannedBy (imageIn (now (image .entry))) port destination vlan priority policed ⌝ }
 {
     let placed = plan::enter::place(image, vlan);
     let Placed::At(place) = placed else {
         return Planned::Dropped(4);
     };
-    plan::plan(image, port, frame, vlan, place, priority)
+    plan::by_policer(image, port, destination, vlan, place, priority, policed)
 }
 
 // One replica: its verdict, and what it spends.
@@ -49,19 +58,22 @@ fn one(
     row: &mut [u64; CELLS],
     port: usize,
     time: u64,
-    frame: &[u8],
+    octets: u64,
+    destination: u64,
     vlan: u64,
     priority: u64,
+    policed: Policed,
 ) -> Verdict
     requires { ⌜ Sound (now image) ⌝ }
-    requires { ⌜ (port < 5) × (60 ≤ length (now frame)) × (length (now frame) ≤ 4096) × (priority < 8) ⌝ }
-    ensures { λ r. ⌜ Carries (now (row .entry)) time (octetsOf (now (frame .entry))) (replicaPlan (imageIn (now (image .entry))) port (now (frame .entry)) vlan priority) r (now (row .exit)) ⌝ }
+    requires { ⌜ (port < 5) × (priority < 8) × (octets < 65536) ⌝ }
+    requires { ⌜ Loaded (imageIn (now image)) policed ⌝ }
+    ensures { λ r. ⌜ Carries (now (row .entry)) time octets (plannedBy (imageIn (now (image .entry))) port destination vlan priority policed) r (now (row .exit)) ⌝ }
 {
-    let planned = plan_on(image, port, frame, vlan, priority);
-    carry_out(row, planned, time, frame.len() as u64 + 4)
+    let planned = plan_on(image, port, destination, vlan, priority, policed);
+    carry_out(row, planned, time, octets)
 }
 
-// All replicas of a frame on a VLAN, in table order, each on the row that the one before left; how many there are.
+// All replicas of a frame on a VLAN, in table order, each on the row that the one before left; how many there are. What asks no VLAN is asked once.
 fn all(
     image: &[u32],
     row: &mut [u64; CELLS],
@@ -78,12 +90,28 @@ fn all(
     ensures { λ r. ⌜ Replicates (replicasIn (imageIn (now (image .entry))) (now (row .entry)) port time (now (frame .entry)) vlan priority) (now (places .entry)) r (now (row .exit)) (now (places .exit)) ⌝ }
 {
     let entries = image::count(image, Table::Retagging);
+    if entries == 0 {
+        return 0;
+    }
+    let destination = frame::mac_at(frame, 0);
+    let octets = frame.len() as u64 + 4;
+    let policed = plan::police(image, port, priority, destination, octets);
     let mut n: usize = 0;
     let mut i: usize = 0;
     while i < entries {
         if names(image, port, vlan, i) {
             let egress = fields::retagging::vlan_egr(image, i);
-            let verdict = one(image, row, port, time, frame, egress, priority);
+            let verdict = one(
+                image,
+                row,
+                port,
+                time,
+                octets,
+                destination,
+                egress,
+                priority,
+                policed,
+            );
             places::put(places, n, verdict);
             n += 1;
         }

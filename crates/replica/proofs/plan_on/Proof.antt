@@ -13,12 +13,12 @@ pub plan-on-spec : {M : Type 1} → statement M
 plan-on-spec =
     tie.close
     (tie.spec
-    (λ c κs. c .before .before .pre .0)
+    (λ c κs. c .before .pre .0)
     (λ c. search needs)
     (λ c. search needs)
-    (λ c. is-absent _ _ _ _ _ _ (c .before .before .place .ensures) (c .enum-told .given .1))
+    (λ c. is-absent _ _ _ _ _ _ _ (c .before .before .place .ensures) (c .enum-told .given .1))
     (λ c κs.
     let p = c .before .before .before in
-    let s = p .before .before .before in
-    (s .pre .0, (s .pre .1 .0, record { long = s .pre .1 .1; there = subst (Inside (imageIn (now (s .args .image)))) (sym (p .place .ensures) ∙ c .before .placed .given .1) (inside (imageIn (now (s .args .image))) _); narrow = s .pre .1 .2 })))
-    (λ c. is-planned _ _ _ _ _ _ _ _ (c .before .before .before .before .place .ensures) (c .before .before .placed .given .1) (c .plan .ensures)))
+    let s = p .before .before in
+    (s .pre .0, ((s .pre .1 .0 .0, subst (Inside (imageIn (now (s .args .image)))) (sym (p .place .ensures) ∙ c .before .placed .given .1) (inside (imageIn (now (s .args .image))) _), s .pre .1 .0 .1), s .pre .1 .1)))
+    (λ c. is-planned _ _ _ _ _ _ _ _ _ (c .before .before .before .before .place .ensures) (c .before .before .placed .given .1) (c .by-policer .ensures)))

@@ -17,10 +17,10 @@ use Rattle.verdict.proofs.list.records_of.Statement.{statement}
 use Rattle.verdict.proofs.list.records_of.Tie as tie
 
 abbrev Inv-loop : tie.InvT-loop
-Inv-loop image list row₀ broken record₀ at₀ row «record» at = «record» ≤ at
+Inv-loop image list row₀ places₀ broken record₀ at₀ row places «record» at = «record» ≤ at
 
 abbrev μ-loop : tie.MeasureT-loop
-μ-loop image list row₀ broken record₀ at₀ row «record» at = length list - at
+μ-loop image list row₀ places₀ broken record₀ at₀ row places «record» at = length list - at
 
 -- the next place is past this one, and within the list
 abbrev Moves : List ℕ → ℕ → ℕ → Type 0
@@ -58,6 +58,7 @@ records-of-spec =
     (λ c. search (needs, frame-starts))
     (λ c. search (needs, frame-starts))
     (λ c. search (needs, frame-ends))
+    (λ c κs. tt)
     (λ c κs. tt)
     (λ c κs. tt)
     (λ c. search needs)
