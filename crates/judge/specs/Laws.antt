@@ -16,21 +16,23 @@ use Rattle.ledger.specs.Row.{frames, last, cell}
 use Rattle.ledger.specs.Range.{latest, standing}
 use Rattle.ledger.specs.Stands.{Stands}
 use Rattle.ledger.specs.Laws.{stands}
-use Rattle.frame.specs.Bytes.{octetsOf}
+use Rattle.frame.specs.Bytes.{octetsOf, destinationOf}
 use Rattle.plan.specs.declared.enter.Entered.{Entered}
 use Rattle.plan.specs.declared.enter.Entered.the-variants as entered
 use Rattle.plan.specs.Enter.{enterOf}
-use Rattle.plan.specs.declared.Course.{Course}
+use Rattle.plan.specs.declared.Policed.{Policed}
+use Rattle.plan.specs.Police.{policedOf}
+use Rattle.plan.specs.Plan.{byPolicer, planOf}
 use Rattle.plan.specs.declared.Planned.{Planned}
 use Rattle.plan.specs.declared.Planned.the-variants.{Dropped, Goes}
 use Rattle.plan.specs.Sane.{Sane, Follows}
 use Rattle.plan.specs.Laws.{follows}
 use Rattle.settle.specs.declared.Verdict.{Verdict}
-use Rattle.settle.specs.declared.Verdict.the-variants.{Refused}
+use Rattle.settle.specs.declared.Verdict.the-variants.{Refused, Drop}
 use Rattle.settle.specs.Settle.{Judged, judged, carriedOut, Carries}
 use Rattle.settle.specs.Note.{isDrop, noted}
 use Rattle.settle.specs.Runs.{RunsAll}
-use Rattle.settle.specs.RunsLaws.{plan-runs}
+use Rattle.settle.specs.RunsLaws.{plan-runs, carries-as}
 use Rattle.places.specs.Places.{laidOver}
 use Rattle.replica.specs.Replica.{replicasOf, Replicates}
 use Rattle.replica.specs.ReplicaLaws.{none-of}
@@ -86,9 +88,30 @@ pub plan-follows : (image : List ℕ) (port : ℕ) (frame : List ℕ) → Follow
 unfolding planFor
 plan-follows image port frame = entry-follows image port frame (enterOf image port frame)
 
--- a plan p that a call handed over
-pub entry-runs : (buffer : List ℕ) (port : ℕ) (frame : List ℕ) (q : Entered) (p : Planned) → Sound buffer → p ≡ byEntry (imageIn buffer) port frame q → RunsAll p
-entry-runs buffer port frame q p s e = plan-runs buffer p _ s e (entry-follows (imageIn buffer) port frame q)
+-- by what steps 1 to 6 answered, q
+pub entry-runs : (buffer : List ℕ) (port : ℕ) (frame : List ℕ) (q : Entered) → Sound buffer → RunsAll (byEntry (imageIn buffer) port frame q)
+entry-runs buffer port frame q s =
+    plan-runs buffer (byEntry (imageIn buffer) port frame q) (byEntry (imageIn buffer) port frame q) s refl (entry-follows (imageIn buffer) port frame q)
+
+pub is-dropped : (image g : List ℕ) (port time octets : ℕ) (frame : List ℕ) (q : Entered) (n : ℕ) → q ≡ entered.Dropped n
+    → Carries g time octets (byEntry image port frame q) (Drop n) g
+is-dropped image g port time octets frame q n e =
+    carries-as g time octets (Dropped n) _ (Drop n) g (ap (byEntry image port frame) (sym e)) (record { verdict = refl; row = refl })
+
+pub is-let-in : (image g : List ℕ) (port time octets : ℕ) (frame : List ℕ) (q : Entered) (vlan place priority destination : ℕ) (k : Policed) (r : Verdict) (after : List ℕ)
+    → q ≡ entered.In vlan place priority
+    → destination ≡ destinationOf frame
+    → octets ≡ octetsOf frame
+    → k ≡ policedOf image port priority destination octets
+    → Carries g time octets (byPolicer image port destination vlan place priority k) r after
+    → Carries g time octets (byEntry image port frame q) r after
+unfolding planOf
+is-let-in image g port time octets frame q vlan place priority destination k r after e d l p =
+    carries-as g time octets _ _ r after
+    (ap (byPolicer image port destination vlan place priority) p
+    ∙ ap (λ (x : ℕ). byPolicer image port x vlan place priority (policedOf image port priority x octets)) d
+    ∙ ap (λ (x : ℕ). byPolicer image port (destinationOf frame) vlan place priority (policedOf image port priority (destinationOf frame) x)) l
+    ∙ ap (byEntry image port frame) (sym e))
 
 -- ---- the promise
 
@@ -124,23 +147,22 @@ is-refused buffer g port time frame places n e z =
     (none-of (imageIn buffer) g port time frame (entered.Dropped n) n places refl)
 
 -- or does not: the plan is carried out, its verdict noted, and the replicas follow
-pub is-judged : (buffer g : List ℕ) (port time : ℕ) (frame places : List ℕ) (n : ℕ) (q : Entered) (p : Planned) (r : Verdict) (mid left : List ℕ) (d : Bool) (m : ℕ) (after told : List ℕ)
+pub is-judged : (buffer g : List ℕ) (port time : ℕ) (frame places : List ℕ) (n : ℕ) (q : Entered) (r : Verdict) (mid left : List ℕ) (d : Bool) (m : ℕ) (after told : List ℕ)
     → n ≡ refusalOf buffer g port time frame
     → n ≡ 0
     → q ≡ enterOf (imageIn buffer) port frame
-    → p ≡ byEntry (imageIn buffer) port frame q
-    → Carries g time (octetsOf frame) p r mid
+    → Carries g time (octetsOf frame) (byEntry (imageIn buffer) port frame q) r mid
     → d ≡ isDrop r
     → left ≡ noted mid port time (octetsOf frame) d
     → Replicates (replicasOf (imageIn buffer) left port time frame q) places m after told
     → Judges buffer g port time frame places (record { verdict = r; replicas = m }) after told
 unfolding judgeOf enteredOf planFor
-is-judged buffer g port time frame places n q p r mid left d m after told e z i k x f h t =
+is-judged buffer g port time frame places n q r mid left d m after told e z i x f h t =
     judges buffer g port time frame places (judged r left) q m after told
     (at-zero n _ _ _ _ e z
     (ap (judged r) (h ∙ ap (noted mid port time (octetsOf frame)) f)
-    ∙ ap (λ (j : Judged). notedOf port time (octetsOf frame) j) (ap (λ (v : Verdict). judged v mid) (x .verdict) ∙ ap (judged (carriedOut g time (octetsOf frame) p .verdict)) (x .row))
-    ∙ ap (λ (j : Planned). notedOf port time (octetsOf frame) (carriedOut g time (octetsOf frame) j)) (k ∙ ap (byEntry (imageIn buffer) port frame) i)))
+    ∙ ap (λ (j : Judged). notedOf port time (octetsOf frame) j) (ap (λ (v : Verdict). judged v mid) (x .verdict) ∙ ap (judged (carriedOut g time (octetsOf frame) (byEntry (imageIn buffer) port frame q) .verdict)) (x .row))
+    ∙ ap (λ (j : Planned). notedOf port time (octetsOf frame) (carriedOut g time (octetsOf frame) j)) (ap (byEntry (imageIn buffer) port frame) i)))
     (at-zero n _ _ _ _ e z i)
     t
 

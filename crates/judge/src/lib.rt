@@ -1,17 +1,18 @@
 // One frame with its replicas: refused, dropped with the step's number, or sent; the row is lent and left as the last verdict leaves it, and each
 // replica's verdict is told in a lent place.
+use frame::mac_at;
 use ledger::CELLS;
 use ledger::FRAMES;
 use ledger::LAST;
 use ledger::range::LATEST;
 use ledger::range::standing;
 use places::PLACES;
-use plan::Planned;
 use plan::enter::Entered;
 use plan::enter::enter;
+use plan::police;
 use replica::replicate;
 use settle::Verdict;
-use settle::carry_out;
+use settle::carry_on;
 use settle::note::is_drop;
 use settle::note::note;
 ghost use mathlib.Core.Path.{_≡_};
@@ -19,7 +20,9 @@ ghost use Prim.Native.Nat.{_<_};
 ghost use Rattle.image.specs.Layout.{imageIn};
 ghost use Rattle.image.specs.Sound.{Sound};
 ghost use Rattle.judge.specs.Refusal.{mistimed, unjudged, refusalOf};
+ghost use Rattle.frame.specs.Bytes.{octetsOf};
 ghost use Rattle.plan.specs.LetIn.{Through};
+ghost use Rattle.settle.specs.Settle.{Carries};
 ghost use Rattle.judge.specs.Judge.{byEntry, Judges};
 
 // 35 and 38: the most bytes of a frame, and the frames of a port at which no more are counted.
@@ -73,20 +76,43 @@ pub struct Judgement {
     pub replicas: usize,
 }
 
-// Steps 7 and 8 of a frame that steps 1 to 6 let in, and the course of the rest.
-fn plan_for(image: &[u32], port: usize, frame: &[u8], entered: Entered) -> Planned
+// Steps 7 to 11 of a frame that steps 1 to 6 let in.
+fn own(
+    image: &[u32],
+    row: &mut [u64; CELLS],
+    port: usize,
+    time: u64,
+    octets: u64,
+    frame: &[u8],
+    entered: Entered,
+) -> Verdict
     requires { ⌜ Sound (now image) ⌝ }
-    requires { ⌜ port < 5 ⌝ }
+    requires { ⌜ (port < 5) × (octets ≡ octetsOf (now frame)) × (octets < 65536) ⌝ }
     requires { ⌜ Through (imageIn (now image)) (now frame) entered ⌝ }
-    ensures { λ r. ⌜ r ≡ byEntry (imageIn (now (image .entry))) port (now (frame .entry)) entered ⌝ }
+    ensures { λ r. ⌜ Carries (now (row .entry)) time octets (byEntry (imageIn (now (image .entry))) port (now (frame .entry)) entered) r (now (row .exit)) ⌝ }
 {
     match entered {
-        Entered::Dropped(drop) => Planned::Dropped(drop),
+        Entered::Dropped(drop) => Verdict::Drop(drop),
         Entered::In {
             vlan,
             place,
             priority,
-        } => plan::plan(image, port, frame, vlan, place, priority),
+        } => {
+            let destination = mac_at(frame, 0);
+            let policed = police(image, port, priority, destination, octets);
+            carry_on(
+                image,
+                row,
+                port,
+                time,
+                octets,
+                destination,
+                vlan,
+                place,
+                priority,
+                policed,
+            )
+        }
     }
 }
 
@@ -110,8 +136,7 @@ pub fn judge(
     }
     let octets = frame.len() as u64 + 4;
     let entered = enter(image, port, frame);
-    let planned = plan_for(image, port, frame, entered);
-    let verdict = carry_out(row, planned, time, octets);
+    let verdict = own(image, row, port, time, octets, frame, entered);
     note(row, port, time, octets, is_drop(verdict));
     let told = replicate(image, row, port, time, frame, entered, replicas);
     Judgement {

@@ -1,5 +1,5 @@
 // Steps 7 and 8, and what steps 9 to 11 need of a frame that passes them: its meter, its partition, and the sending if it comes to that.
-// They read the image and the frame only, and can be run with any VLAN, place and priority.
+// They read the image and the frame's numbers only, and can be run with any VLAN, place and priority.
 pub mod enter;
 
 use image::tables::Table;
@@ -9,9 +9,8 @@ ghost use Prim.Native.Nat.{_<_};
 ghost use Rattle.image.specs.Layout.{imageIn, countOf};
 ghost use Rattle.image.specs.Sound.{Sound};
 ghost use Rattle.image.specs.declared.tables.Table.the-variants.{Policing, VlanLookup};
-ghost use Rattle.plan.specs.LetIn.{LetIn};
 ghost use Rattle.plan.specs.Police.{policerOf, meteredBy, policedBy, policedOf};
-ghost use Rattle.plan.specs.Plan.{byPolicer, planOf};
+ghost use Rattle.plan.specs.Plan.{byPolicer};
 ghost use Rattle.plan.specs.Sane.{Loaded};
 
 // Steps 7 and 8: no meter to use, too long for its policing entry, or let through by entry `policer` with the meter of entry `meter`.
@@ -112,24 +111,4 @@ pub fn by_policer(
             Planned::Goes(course)
         }
     }
-}
-
-// Steps 7 and 8 for a frame that is let in, and the course of the rest.
-pub fn plan(
-    image: &[u32],
-    port: usize,
-    frame: &[u8],
-    vlan: u64,
-    place: usize,
-    priority: u64,
-) -> Planned
-    requires { ⌜ Sound (now image) ⌝ }
-    requires { ⌜ port < 5 ⌝ }
-    requires { ⌜ LetIn (imageIn (now image)) (now frame) place priority ⌝ }
-    ensures { λ r. ⌜ r ≡ planOf (imageIn (now (image .entry))) port (now (frame .entry)) vlan place priority ⌝ }
-{
-    let destination = frame::mac_at(frame, 0);
-    let octets = frame.len() as u64 + 4;
-    let policed = police(image, port, priority, destination, octets);
-    by_policer(image, port, destination, vlan, place, priority, policed)
 }

@@ -22,11 +22,11 @@ use Rattle.plan.specs.declared.Planned.the-variants.{Dropped}
 use Rattle.plan.specs.declared.Policed.{Policed}
 use Rattle.plan.specs.Police.{policedOf}
 use Rattle.plan.specs.Plan.{byPolicer, planOf}
-use Rattle.plan.specs.Sane.{Loaded, Follows}
-use Rattle.plan.specs.Laws.{follows-by, follows}
+use Rattle.plan.specs.Sane.{Follows}
+use Rattle.plan.specs.Laws.{follows}
 use Rattle.settle.specs.declared.Verdict.{Verdict}
-use Rattle.settle.specs.Runs.{RunsAll}
-use Rattle.settle.specs.RunsLaws.{plan-runs}
+use Rattle.settle.specs.declared.Verdict.the-variants.{Drop}
+use Rattle.settle.specs.RunsLaws.{carries-as}
 use Rattle.settle.specs.Settle.{Judged, judged, carriedOut, Carries}
 use Rattle.places.specs.Places.{putIn, laidOver}
 use Rattle.places.specs.PlacesLaws.{laid-none, laid-more}
@@ -55,35 +55,21 @@ planned-is image port frame vlan priority = go (placedOf image vlan)
     go Absent = refl
     go (At place) = refl
 
-planned-follows : (image : List ℕ) (port destination vlan priority : ℕ) (q : Policed) → Loaded image q → Follows image (plannedBy image port destination vlan priority q)
-unfolding plannedBy
-planned-follows image port destination vlan priority q l = go (placedOf image vlan)
-  where
-    go : (p : Placed) → Follows image (byPoliced image port destination vlan priority q p)
-    go Absent = tt
-    go (At place) = follows-by image port destination vlan place priority q l
-
--- by a plan r that a call handed over
-pub planned-runs : (buffer : List ℕ) (port destination vlan priority : ℕ) (q : Policed) (r : Planned) → Sound buffer → Loaded (imageIn buffer) q
-    → r ≡ plannedBy (imageIn buffer) port destination vlan priority q
-    → RunsAll r
-planned-runs buffer port destination vlan priority q r s l e = plan-runs buffer r _ s e (planned-follows (imageIn buffer) port destination vlan priority q l)
-
 -- by a place p that a call handed over
-pub is-absent : (image : List ℕ) (port destination vlan priority : ℕ) (q : Policed) (p : Placed) → p ≡ placedOf image vlan → p ≡ Absent
-    → Dropped 4 ≡ plannedBy image port destination vlan priority q
+pub is-absent : (image g : List ℕ) (port time octets destination vlan priority : ℕ) (q : Policed) (p : Placed) → p ≡ placedOf image vlan → p ≡ Absent
+    → Carries g time octets (plannedBy image port destination vlan priority q) (Drop 4) g
 unfolding plannedBy
-is-absent image port destination vlan priority q p e h = ap (byPoliced image port destination vlan priority q) (sym h ∙ e)
+is-absent image g port time octets destination vlan priority q p e h =
+    carries-as g time octets (Dropped 4) _ (Drop 4) g (ap (byPoliced image port destination vlan priority q) (sym h ∙ e)) (record { verdict = refl; row = refl })
 
-pub is-planned : (image : List ℕ) (port destination vlan priority : ℕ) (q : Policed) (p : Placed) (place : ℕ) (r : Planned) → p ≡ placedOf image vlan → p ≡ At place
-    → r ≡ byPolicer image port destination vlan place priority q
-    → r ≡ plannedBy image port destination vlan priority q
+pub is-placed : (image g : List ℕ) (port time octets destination vlan priority : ℕ) (q : Policed) (p : Placed) (place : ℕ) (r : Verdict) (after : List ℕ)
+    → p ≡ placedOf image vlan
+    → p ≡ At place
+    → Carries g time octets (byPolicer image port destination vlan place priority q) r after
+    → Carries g time octets (plannedBy image port destination vlan priority q) r after
 unfolding plannedBy
-is-planned image port destination vlan priority q p place r e h x = x ∙ ap (byPoliced image port destination vlan priority q) (sym h ∙ e)
-
--- and what it comes to
-pub carries-as : (g : List ℕ) (time l : ℕ) (p q : Planned) (r : Verdict) (after : List ℕ) → p ≡ q → Carries g time l p r after → Carries g time l q r after
-carries-as g time l p q r after e c = subst (λ (x : Planned). Carries g time l x r after) e c
+is-placed image g port time octets destination vlan priority q p place r after e h =
+    carries-as g time octets _ _ r after (ap (byPoliced image port destination vlan priority q) (sym h ∙ e))
 
 -- of the frame's destination, octets and what 7 and 8 answered of it
 pub carries-replica : (image g : List ℕ) (port time : ℕ) (frame : List ℕ) (vlan priority destination octets : ℕ) (q : Policed) (r : Verdict) (after : List ℕ)

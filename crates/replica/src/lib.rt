@@ -2,12 +2,11 @@
 use addresses::holds;
 use image::tables::Table;
 use ledger::CELLS;
-use plan::Planned;
 use plan::Policed;
 use plan::enter::Entered;
 use plan::enter::Placed;
 use settle::Verdict;
-use settle::carry_out;
+use settle::carry_on;
 ghost use mathlib.Core.Path.{_≡_};
 ghost use Prim.Native.Nat.{_<_, _≤_};
 ghost use lib.ListN.{length};
@@ -31,28 +30,7 @@ fn names(image: &[u32], port: usize, vlan: u64, i: usize) -> bool
     holds(fields::retagging::ing_port(image, i), port)
 }
 
-// Step 4 on a VLAN of its own, then what 7 and 8 answered of the frame: membership and the source are not asked.
-fn plan_on(
-    image: &[u32],
-    port: usize,
-    destination: u64,
-    vlan: u64,
-    priority: u64,
-    policed: Policed,
-) -> Planned
-    requires { ⌜ Sound (now image) ⌝ }
-    requires { ⌜ (port < 5) × (priority < 8) ⌝ }
-    requires { ⌜ Loaded (imageIn (now image)) policed ⌝ }
-    ensures { λ r. ⌜ r ≡ plannedBy (imageIn (now (image .entry))) port destination vlan priority policed ⌝ }
-{
-    let placed = plan::enter::place(image, vlan);
-    let Placed::At(place) = placed else {
-        return Planned::Dropped(4);
-    };
-    plan::by_policer(image, port, destination, vlan, place, priority, policed)
-}
-
-// One replica: its verdict, and what it spends.
+// One replica: step 4 on a VLAN of its own, then 7 to 11 by what 7 and 8 answered of the frame. Membership and the source are not asked.
 fn one(
     image: &[u32],
     row: &mut [u64; CELLS],
@@ -69,8 +47,22 @@ fn one(
     requires { ⌜ Loaded (imageIn (now image)) policed ⌝ }
     ensures { λ r. ⌜ Carries (now (row .entry)) time octets (plannedBy (imageIn (now (image .entry))) port destination vlan priority policed) r (now (row .exit)) ⌝ }
 {
-    let planned = plan_on(image, port, destination, vlan, priority, policed);
-    carry_out(row, planned, time, octets)
+    let placed = plan::enter::place(image, vlan);
+    let Placed::At(place) = placed else {
+        return Verdict::Drop(4);
+    };
+    carry_on(
+        image,
+        row,
+        port,
+        time,
+        octets,
+        destination,
+        vlan,
+        place,
+        priority,
+        policed,
+    )
 }
 
 // All replicas of a frame on a VLAN, in table order, each on the row that the one before left; how many there are. What asks no VLAN is asked once.

@@ -10,6 +10,8 @@ use Rattle.plan.specs.declared.Course.{Course}
 use Rattle.plan.specs.declared.Planned.{Planned}
 use Rattle.plan.specs.declared.Planned.the-variants.{Dropped, Goes}
 use Rattle.plan.specs.Sane.{Sane, Follows}
+use Rattle.settle.specs.declared.Verdict.{Verdict}
+use Rattle.settle.specs.Settle.{Carries}
 use Rattle.settle.specs.Runs.{Runs, RunsAll}
 
 pub runs : (buffer : List ℕ) (w : Course) → Sound buffer → Sane (imageIn buffer) w → Runs w
@@ -23,3 +25,7 @@ plan-runs buffer p q s e f = subst RunsAll (sym e) (go q f)
     go : (r : Planned) → Follows (imageIn buffer) r → RunsAll r
     go (Dropped n) h = tt
     go (Goes w) h = runs buffer w s h
+
+-- and what it comes to
+pub carries-as : (g : List ℕ) (time l : ℕ) (p q : Planned) (r : Verdict) (after : List ℕ) → p ≡ q → Carries g time l p r after → Carries g time l q r after
+carries-as g time l p q r after e c = subst (λ (x : Planned). Carries g time l x r after) e c

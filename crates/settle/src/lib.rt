@@ -8,11 +8,17 @@ use ledger::SINCE;
 use ledger::UNITS;
 use plan::Course;
 use plan::Planned;
+use plan::Policed;
 use ports::Sending;
 use spend::Meter;
 ghost use mathlib.Core.Path.{_≡_};
 ghost use Prim.Native.Nat.{_<_};
+ghost use Rattle.image.specs.Layout.{imageIn, countOf};
+ghost use Rattle.image.specs.Sound.{Sound};
+ghost use Rattle.image.specs.declared.tables.Table.the-variants.{VlanLookup};
 ghost use Rattle.plan.specs.declared.Planned.the-variants.{Goes};
+ghost use Rattle.plan.specs.Plan.{byPolicer};
+ghost use Rattle.plan.specs.Sane.{Loaded};
 ghost use Rattle.settle.specs.Settle.{verdictOf, settledOf, Carries};
 ghost use Rattle.settle.specs.Runs.{Runs, RunsAll};
 
@@ -104,4 +110,27 @@ pub fn carry_out(row: &mut [u64; CELLS], planned: Planned, time: u64, octets: u6
         Planned::Dropped(drop) => Verdict::Drop(drop),
         Planned::Goes(course) => run(row, course, time, octets),
     }
+}
+
+// Steps 7 to 11 on a VLAN, of a frame or of a replica, by what 7 and 8 answered: planned and carried out, in one function for both.
+pub fn carry_on(
+    image: &[u32],
+    row: &mut [u64; CELLS],
+    port: usize,
+    time: u64,
+    octets: u64,
+    destination: u64,
+    vlan: u64,
+    place: usize,
+    priority: u64,
+    policed: Policed,
+) -> Verdict
+    requires { ⌜ Sound (now image) ⌝ }
+    requires { ⌜ (port < 5) × (place < countOf (imageIn (now image)) VlanLookup) × (priority < 8) ⌝ }
+    requires { ⌜ Loaded (imageIn (now image)) policed ⌝ }
+    requires { ⌜ octets < 65536 ⌝ }
+    ensures { λ r. ⌜ Carries (now (row .entry)) time octets (byPolicer (imageIn (now (image .entry))) port destination vlan place priority policed) r (now (row .exit)) ⌝ }
+{
+    let planned = plan::by_policer(image, port, destination, vlan, place, priority, policed);
+    carry_out(row, planned, time, octets)
 }

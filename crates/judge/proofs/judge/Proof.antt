@@ -1,5 +1,5 @@
 -- `judge::judge`: refused with the row and the places as they were; or the plan carried out, and noted, and then the replicas.
-use mathlib.Core.Path.{sym, subst}
+use mathlib.Core.Path.{refl, sym, subst}
 use native.Mathlib.Omega.{arith}
 use borrow.Author.Needs.{needs}
 use denote.Ref.{now}
@@ -20,27 +20,23 @@ judge-spec =
     (λ c. omega arith)
     (λ c κs. let a = admitted-as _ _ _ _ _ _ (c .before .refusal .ensures) (c .if1 .left) in (a .image, a .inside))
     (λ c κs.
-    let a = admitted-as _ _ _ _ _ _ (c .before .before .refusal .ensures) (c .before .if1 .left) in
-    let s = c .before .before .before .before .before .before in
-    (a .image, (a .inside, subst (Through (imageIn (now (s .args .image))) (now (s .args .frame))) (sym (c .enter .ensures)) (through _ _ _))))
-    (λ c κs.
-    let p = c .before in
-    let s = p .before .before .before .before .before .before .before in
-    let a = admitted-as _ _ _ _ _ _ (p .before .before .before .refusal .ensures) (p .before .before .if1 .left) in
-    (entry-runs _ (s .args .port) (now (s .args .frame)) (p .before .enter .result) _ (a .image) (p .plan-for .ensures), omega (arith, a .short)))
+    let e = c .before in
+    let s = e .before .before .before .before .before .before in
+    let a = admitted-as _ _ _ _ _ _ (e .before .before .refusal .ensures) (e .before .if1 .left) in
+    (a .image, ((a .inside, refl, omega (arith, a .short)), subst (Through (imageIn (now (s .args .image))) (now (s .args .frame))) (sym (e .enter .ensures)) (through _ _ _))))
     (λ c κs. tt)
     (λ c κs.
-    let p = c .before .before .before .before in
-    let s = p .before .before .before .before .before .before .before in
-    let a = admitted-as _ _ _ _ _ _ (p .before .before .before .refusal .ensures) (p .before .before .if1 .left) in
-    (still-countable _ _ _ _ _ _ _ (c .before .before .carry-out .ensures) (entry-runs _ (s .args .port) (now (s .args .frame)) (p .before .enter .result) _ (a .image) (p .plan-for .ensures)) (a .inside) (a .countable), (a .inside, omega (arith, a .short))))
+    let e = c .before .before .before .before in
+    let s = e .before .before .before .before .before .before in
+    let a = admitted-as _ _ _ _ _ _ (e .before .before .refusal .ensures) (e .before .if1 .left) in
+    (still-countable _ _ _ _ _ _ _ (c .before .before .own .ensures) (entry-runs _ (s .args .port) (now (s .args .frame)) (e .enter .result) (a .image)) (a .inside) (a .countable), (a .inside, omega (arith, a .short))))
     (λ c κs.
-    let e = c .before .before .before .before .before .before .before .before in
+    let e = c .before .before .before .before .before .before .before in
     let s = e .before .before .before .before .before .before in
     let a = admitted-as _ _ _ _ _ _ (e .before .before .refusal .ensures) (e .before .if1 .left) in
     (a .image, ((a .inside, a .short), (subst (Through (imageIn (now (s .args .image))) (now (s .args .frame))) (sym (e .enter .ensures)) (through _ _ _), search needs))))
     (λ c.
     let n = c .before .before .before in
-    let p = n .before .before .before .before .before in
-    let e = p .before in
-    is-judged _ _ _ _ _ _ _ _ _ _ _ _ _ _ _ _ (e .before .before .refusal .ensures) (e .before .if1 .left) (e .enter .ensures) (p .plan-for .ensures) (n .before .before .before .carry-out .ensures) (n .before .is-drop .ensures) (n .note .ensures) (c .replicate .ensures)))
+    let o = n .before .before .before in
+    let e = o .before .before in
+    is-judged _ _ _ _ _ _ _ _ _ _ _ _ _ _ _ (e .before .before .refusal .ensures) (e .before .if1 .left) (e .enter .ensures) (o .own .ensures) (n .before .is-drop .ensures) (n .note .ensures) (c .replicate .ensures)))

@@ -1,6 +1,11 @@
--- `replica::one`: the plan on the entry's VLAN, carried out.
+-- `replica::one`: by the answer of 4.
+use mathlib.Core.Path.{sym, subst, _∙_}
 use borrow.Author.Needs.{needs}
-use Rattle.replica.specs.ReplicaLaws.{planned-runs, carries-as}
+use denote.Ref.{now}
+use Rattle.image.specs.Layout.{imageIn}
+use Rattle.plan.specs.LetIn.{Inside}
+use Rattle.plan.specs.EnterLaws.{inside}
+use Rattle.replica.specs.ReplicaLaws.{is-absent, is-placed}
 use Rattle.replica.proofs.one.Statement.{statement}
 use Rattle.replica.proofs.one.Tie as tie
 
@@ -8,9 +13,13 @@ pub one-spec : {M : Type 1} → statement M
 one-spec =
     tie.close
     (tie.spec
-    (λ c κs. let s = c .before .pre in (s .0, ((s .1 .0 .0, s .1 .0 .1), s .1 .1)))
+    (λ c κs. c .before .pre .0)
+    (λ c. search needs)
+    (λ c. search needs)
+    (λ c. is-absent _ _ _ _ _ _ _ _ _ _ (c .before .before .place .ensures) (c .enum-told .given .1))
     (λ c κs.
-    let p = c .before in
+    let p = c .before .before .before .before in
     let s = p .before .before in
-    (planned-runs _ _ _ _ _ _ _ (s .pre .0) (s .pre .1 .1) (p .plan-on .ensures), s .pre .1 .0 .2))
-    (λ c. carries-as _ _ _ _ _ _ _ (c .before .before .plan-on .ensures) (c .carry-out .ensures)))
+    let t = subst (Inside (imageIn (now (s .args .image)))) (sym (p .place .ensures) ∙ c .before .before .placed .given .1) (inside (imageIn (now (s .args .image))) _) in
+    (s .pre .0, ((s .pre .1 .0 .0, t, s .pre .1 .0 .1), (s .pre .1 .1, s .pre .1 .0 .2))))
+    (λ c. is-placed _ _ _ _ _ _ _ _ _ _ _ _ _ (c .before .before .before .before .before .place .ensures) (c .before .before .before .placed .given .1) (c .carry-on .ensures)))
