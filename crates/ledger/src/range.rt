@@ -99,10 +99,19 @@ fn octets_off(count: u64, octets: u64) -> bool
     4096 * count < std::num::wrapping_sub_u64(octets, 4 * count)
 }
 
-// A tile's counts that no frames give.
+// A tile's counts that no frames give. A port without frames has no other counts either, which most ports of a bench are.
 fn counts_off(frames: u64, drops: u64, octets: u64, dropped: u64) -> bool
     ensures { λ r. ⌜ r ≡ countsOff frames drops octets dropped ⌝ }
 {
+    if frames == 0 {
+        if drops != 0 {
+            return true;
+        }
+        if octets != 0 {
+            return true;
+        }
+        return 0 < dropped;
+    }
     if frames < drops {
         return true;
     }
