@@ -147,9 +147,8 @@ module _ (buffer g : List ℕ) (port time : ℕ) (frame : List ℕ) where
       let same =
       one-judgement buffer g port time frame places r (record { verdict = j .verdict; replicas = length (all .verdicts) }) after (all .row) told
       (laidOver (all .verdicts) places) p
-      (is-judged buffer g port time frame places (refusalOf buffer g port time frame) (enterOf image port frame)
-      (byEntry image port frame (enterOf image port frame)) (j .verdict) (j .row) own (isDrop (j .verdict)) (length (all .verdicts)) (all .row)
-      (laidOver (all .verdicts) places) refl z refl refl (record { verdict = refl; row = refl }) refl
+      (is-judged buffer g port time frame places (refusalOf buffer g port time frame) (enterOf image port frame) (j .verdict) (j .row) own (isDrop (j .verdict)) (length (all .verdicts)) (all .row)
+      (laidOver (all .verdicts) places) refl z refl (record { verdict = refl; row = refl }) refl
       (ap (λ (k : Judged). k .row) (judged-is buffer g port time frame z))
       (all-of image own port time frame (enterOf image port frame) vlan (vlanAt image vlan) priority places (length (all .verdicts)) (all .row)
       (laidOver (all .verdicts) places) e (record { many = refl; left = refl; laid = refl }))) in
