@@ -32,7 +32,8 @@ use Rattle.settle.specs.declared.Verdict.the-variants.{Refused, Drop}
 use Rattle.settle.specs.Settle.{Judged, judged, carriedOut, Carries}
 use Rattle.settle.specs.Note.{isDrop, noted}
 use Rattle.settle.specs.Runs.{RunsAll}
-use Rattle.settle.specs.RunsLaws.{plan-runs, carries-as}
+use Rattle.settle.specs.RunsLaws.{plan-runs}
+use Rattle.settle.specs.Laws.{carries-as, drop-carries}
 use Rattle.places.specs.Places.{laidOver}
 use Rattle.replica.specs.Replica.{replicasOf, Replicates}
 use Rattle.replica.specs.ReplicaLaws.{none-of}
@@ -96,22 +97,31 @@ entry-runs buffer port frame q s =
 pub is-dropped : (image g : List ℕ) (port time octets : ℕ) (frame : List ℕ) (q : Entered) (n : ℕ) → q ≡ entered.Dropped n
     → Carries g time octets (byEntry image port frame q) (Drop n) g
 is-dropped image g port time octets frame q n e =
-    carries-as g time octets (Dropped n) _ (Drop n) g (ap (byEntry image port frame) (sym e)) (record { verdict = refl; row = refl })
+    carries-as g time octets (byEntry image port frame q) (Dropped n) (Drop n) g (ap (byEntry image port frame) e) (drop-carries g time octets n)
 
-pub is-let-in : (image g : List ℕ) (port time octets : ℕ) (frame : List ℕ) (q : Entered) (vlan place priority destination : ℕ) (k : Policed) (r : Verdict) (after : List ℕ)
+pub is-let-in : (image g : List ℕ) (port time octets : ℕ) (frame : List ℕ) (q : Entered) (vlan place priority destination : ℕ) (r : Verdict) (after : List ℕ)
     → q ≡ entered.In vlan place priority
     → destination ≡ destinationOf frame
     → octets ≡ octetsOf frame
-    → k ≡ policedOf image port priority destination octets
-    → Carries g time octets (byPolicer image port destination vlan place priority k) r after
+    → Carries g time octets (byPolicer image port destination vlan place priority (policedOf image port priority destination octets)) r after
     → Carries g time octets (byEntry image port frame q) r after
 unfolding planOf
-is-let-in image g port time octets frame q vlan place priority destination k r after e d l p =
-    carries-as g time octets _ _ r after
-    (ap (byPolicer image port destination vlan place priority) p
-    ∙ ap (λ (x : ℕ). byPolicer image port x vlan place priority (policedOf image port priority x octets)) d
-    ∙ ap (λ (x : ℕ). byPolicer image port (destinationOf frame) vlan place priority (policedOf image port priority (destinationOf frame) x)) l
-    ∙ ap (byEntry image port frame) (sym e))
+is-let-in image g port time octets frame q vlan place priority destination r after e d l =
+    carries-as g time octets (byEntry image port frame q) (byPolicer image port destination vlan place priority (policedOf image port priority destination octets)) r after
+    (ap (byEntry image port frame) e
+    ∙ sym
+    (ap (λ (x : ℕ). byPolicer image port x vlan place priority (policedOf image port priority x octets)) d
+    ∙ ap (λ (x : ℕ). byPolicer image port (destinationOf frame) vlan place priority (policedOf image port priority (destinationOf frame) x)) l))
+
+-- by what 7 and 8 answered, k
+pub is-policed : (image g : List ℕ) (port time octets destination vlan place priority : ℕ) (q k : Policed) (r : Verdict) (after : List ℕ)
+    → q ≡ policedOf image port priority destination octets
+    → q ≡ k
+    → Carries g time octets (byPolicer image port destination vlan place priority k) r after
+    → Carries g time octets (byPolicer image port destination vlan place priority (policedOf image port priority destination octets)) r after
+is-policed image g port time octets destination vlan place priority q k r after e h =
+    carries-as g time octets (byPolicer image port destination vlan place priority (policedOf image port priority destination octets))
+    (byPolicer image port destination vlan place priority k) r after (ap (byPolicer image port destination vlan place priority) (sym e ∙ h))
 
 -- ---- the promise
 

@@ -7,6 +7,7 @@ use ledger::LAST;
 use ledger::range::LATEST;
 use ledger::range::standing;
 use places::PLACES;
+use plan::Policed;
 use plan::enter::Entered;
 use plan::enter::enter;
 use plan::police;
@@ -17,11 +18,14 @@ use settle::note::is_drop;
 use settle::note::note;
 ghost use mathlib.Core.Path.{_≡_};
 ghost use Prim.Native.Nat.{_<_};
-ghost use Rattle.image.specs.Layout.{imageIn};
+ghost use Rattle.image.specs.Layout.{imageIn, countOf};
 ghost use Rattle.image.specs.Sound.{Sound};
 ghost use Rattle.judge.specs.Refusal.{mistimed, unjudged, refusalOf};
 ghost use Rattle.frame.specs.Bytes.{octetsOf};
+ghost use Rattle.image.specs.declared.tables.Table.the-variants.{VlanLookup};
 ghost use Rattle.plan.specs.LetIn.{Through};
+ghost use Rattle.plan.specs.Police.{policedOf};
+ghost use Rattle.plan.specs.Plan.{byPolicer};
 ghost use Rattle.settle.specs.Settle.{Carries};
 ghost use Rattle.judge.specs.Judge.{byEntry, Judges};
 
@@ -76,7 +80,43 @@ pub struct Judgement {
     pub replicas: usize,
 }
 
-// Steps 7 to 11 of a frame that steps 1 to 6 let in.
+// Steps 7 to 11 of a frame that is let in.
+fn let_in(
+    image: &[u32],
+    row: &mut [u64; CELLS],
+    port: usize,
+    time: u64,
+    octets: u64,
+    destination: u64,
+    vlan: u64,
+    place: usize,
+    priority: u64,
+) -> Verdict
+    requires { ⌜ Sound (now image) ⌝ }
+    requires { ⌜ (port < 5) × (place < countOf (imageIn (now image)) VlanLookup) × (priority < 8) × (octets < 65536) ⌝ }
+    ensures { λ r. ⌜ Carries (now (row .entry)) time octets (byPolicer (imageIn (now (image .entry))) port destination vlan place priority (policedOf (imageIn (now (image .entry))) port priority destination octets)) r (now (row .exit)) ⌝ }
+{
+    let policed = police(image, port, priority, destination, octets);
+    match policed {
+        Policed::Unmetered => Verdict::Drop(7),
+        Policed::TooLong => Verdict::Drop(8),
+        Policed::By { policer, meter } => carry_on(
+            image,
+            row,
+            port,
+            time,
+            octets,
+            destination,
+            vlan,
+            place,
+            priority,
+            policer,
+            meter,
+        ),
+    }
+}
+
+// The frame by itself, by what steps 1 to 6 answered.
 fn own(
     image: &[u32],
     row: &mut [u64; CELLS],
@@ -99,8 +139,7 @@ fn own(
             priority,
         } => {
             let destination = mac_at(frame, 0);
-            let policed = police(image, port, priority, destination, octets);
-            carry_on(
+            let_in(
                 image,
                 row,
                 port,
@@ -110,7 +149,6 @@ fn own(
                 vlan,
                 place,
                 priority,
-                policed,
             )
         }
     }

@@ -38,13 +38,6 @@ same-course image port destination vlan place priority policer meter s r p to v 
     ∙ ap (λ (x : ℕ). course meter (smax image meter) (rate image meter) x v) c
     ∙ ap (course meter (smax image meter) (rate image meter) (partition image policer)) (e ∙ ap (λ (x : ℕ). sendingOf image port x vlan priority place) d)
 
--- and can be read, by an answer q that was matched
-pub policer-held : (buffer : List ℕ) (q : Policed) (k m : ℕ) → Sound buffer → Loaded (imageIn buffer) q → q ≡ By k m → Held Policing k buffer
-policer-held buffer q k m s l e = held _ Policing _ (s .within) (subst (Loaded (imageIn buffer)) e l .0)
-
-pub meter-held : (buffer : List ℕ) (q : Policed) (k m : ℕ) → Sound buffer → Loaded (imageIn buffer) q → q ≡ By k m → Held Policing m buffer
-meter-held buffer q k m s l e = held _ Policing _ (s .within) (subst (Loaded (imageIn buffer)) e l .1)
-
 pub policed : (image : List ℕ) (port priority destination octets : ℕ) → Loaded image (policedOf image port priority destination octets)
 unfolding policedOf
 policed image port priority destination octets = by (leb (countOf image Policing) k) refl

@@ -10,8 +10,7 @@ ghost use Rattle.image.specs.Layout.{imageIn, countOf};
 ghost use Rattle.image.specs.Sound.{Sound};
 ghost use Rattle.image.specs.declared.tables.Table.the-variants.{Policing, VlanLookup};
 ghost use Rattle.plan.specs.Police.{policerOf, meteredBy, policedBy, policedOf};
-ghost use Rattle.plan.specs.Plan.{byPolicer};
-ghost use Rattle.plan.specs.Sane.{Loaded};
+ghost use Rattle.plan.specs.Plan.{courseOf};
 
 // Steps 7 and 8: no meter to use, too long for its policing entry, or let through by entry `policer` with the meter of entry `meter`.
 pub enum Policed {
@@ -81,34 +80,28 @@ pub fn police(image: &[u32], port: usize, priority: u64, destination: u64, octet
     policed_by(image, policer, octets)
 }
 
-// What 7 and 8 answered drops, or the course of the rest on a VLAN.
-pub fn by_policer(
+// The course of the rest on a VLAN, for what entry `policer` lets through with the meter of entry `meter`.
+pub fn course_on(
     image: &[u32],
     port: usize,
     destination: u64,
     vlan: u64,
     place: usize,
     priority: u64,
-    policed: Policed,
-) -> Planned
+    policer: usize,
+    meter: usize,
+) -> Course
     requires { ⌜ Sound (now image) ⌝ }
     requires { ⌜ (port < 5) × (place < countOf (imageIn (now image)) VlanLookup) × (priority < 8) ⌝ }
-    requires { ⌜ Loaded (imageIn (now image)) policed ⌝ }
-    ensures { λ r. ⌜ r ≡ byPolicer (imageIn (now (image .entry))) port destination vlan place priority policed ⌝ }
+    requires { ⌜ (policer < countOf (imageIn (now image)) Policing) × (meter < countOf (imageIn (now image)) Policing) ⌝ }
+    ensures { λ r. ⌜ r ≡ courseOf (imageIn (now (image .entry))) port destination vlan place priority policer meter ⌝ }
 {
-    match policed {
-        Policed::Unmetered => Planned::Dropped(7),
-        Policed::TooLong => Planned::Dropped(8),
-        Policed::By { policer, meter } => {
-            let to = ports::ports(image, port, vlan, place, destination);
-            let course = Course {
-                meter,
-                smax: fields::policing::smax(image, meter),
-                rate: fields::policing::rate(image, meter),
-                partition: fields::policing::partition(image, policer) as usize,
-                sending: ports::send(image, port, to, vlan, priority, place),
-            };
-            Planned::Goes(course)
-        }
+    let to = ports::ports(image, port, vlan, place, destination);
+    Course {
+        meter,
+        smax: fields::policing::smax(image, meter),
+        rate: fields::policing::rate(image, meter),
+        partition: fields::policing::partition(image, policer) as usize,
+        sending: ports::send(image, port, to, vlan, priority, place),
     }
 }

@@ -26,7 +26,7 @@ use Rattle.plan.specs.Sane.{Follows}
 use Rattle.plan.specs.Laws.{follows}
 use Rattle.settle.specs.declared.Verdict.{Verdict}
 use Rattle.settle.specs.declared.Verdict.the-variants.{Drop}
-use Rattle.settle.specs.RunsLaws.{carries-as}
+use Rattle.settle.specs.Laws.{carries-as, drop-carries}
 use Rattle.settle.specs.Settle.{Judged, judged, carriedOut, Carries}
 use Rattle.places.specs.Places.{putIn, laidOver}
 use Rattle.places.specs.PlacesLaws.{laid-none, laid-more}
@@ -60,16 +60,19 @@ pub is-absent : (image g : List ℕ) (port time octets destination vlan priority
     → Carries g time octets (plannedBy image port destination vlan priority q) (Drop 4) g
 unfolding plannedBy
 is-absent image g port time octets destination vlan priority q p e h =
-    carries-as g time octets (Dropped 4) _ (Drop 4) g (ap (byPoliced image port destination vlan priority q) (sym h ∙ e)) (record { verdict = refl; row = refl })
+    carries-as g time octets _ (Dropped 4) (Drop 4) g (ap (byPoliced image port destination vlan priority q) (sym e ∙ h)) (drop-carries g time octets 4)
 
-pub is-placed : (image g : List ℕ) (port time octets destination vlan priority : ℕ) (q : Policed) (p : Placed) (place : ℕ) (r : Verdict) (after : List ℕ)
+-- and, where it is one of 07's, by what 7 and 8 answered
+pub is-placed : (image g : List ℕ) (port time octets destination vlan priority : ℕ) (q k : Policed) (p : Placed) (place : ℕ) (r : Verdict) (after : List ℕ)
     → p ≡ placedOf image vlan
     → p ≡ At place
-    → Carries g time octets (byPolicer image port destination vlan place priority q) r after
+    → q ≡ k
+    → Carries g time octets (byPolicer image port destination vlan place priority k) r after
     → Carries g time octets (plannedBy image port destination vlan priority q) r after
 unfolding plannedBy
-is-placed image g port time octets destination vlan priority q p place r after e h =
-    carries-as g time octets _ _ r after (ap (byPoliced image port destination vlan priority q) (sym h ∙ e))
+is-placed image g port time octets destination vlan priority q k p place r after e h w =
+    carries-as g time octets _ (byPolicer image port destination vlan place priority k) r after
+    (ap (byPoliced image port destination vlan priority q) (sym e ∙ h) ∙ ap (byPolicer image port destination vlan place priority) w)
 
 -- of the frame's destination, octets and what 7 and 8 answered of it
 pub carries-replica : (image g : List ℕ) (port time : ℕ) (frame : List ℕ) (vlan priority destination octets : ℕ) (q : Policed) (r : Verdict) (after : List ℕ)
@@ -81,10 +84,12 @@ pub carries-replica : (image g : List ℕ) (port time : ℕ) (frame : List ℕ) 
 carries-replica image g port time frame vlan priority destination octets q r after d l e c =
     subst (λ (x : ℕ). Carries g time x (replicaPlan image port frame vlan priority) r after) l
     (carries-as g time octets _ _ r after
+    (sym
     (ap (plannedBy image port destination vlan priority) e
     ∙ ap (λ (x : ℕ). plannedBy image port x vlan priority (policedOf image port priority x octets)) d
     ∙ ap (λ (x : ℕ). plannedBy image port (destinationOf frame) vlan priority (policedOf image port priority (destinationOf frame) x)) l
-    ∙ planned-is image port frame vlan priority) c)
+    ∙ planned-is image port frame vlan priority))
+    c)
 
 -- ---- entry after entry
 

@@ -51,18 +51,23 @@ fn one(
     let Placed::At(place) = placed else {
         return Verdict::Drop(4);
     };
-    carry_on(
-        image,
-        row,
-        port,
-        time,
-        octets,
-        destination,
-        vlan,
-        place,
-        priority,
-        policed,
-    )
+    match policed {
+        Policed::Unmetered => Verdict::Drop(7),
+        Policed::TooLong => Verdict::Drop(8),
+        Policed::By { policer, meter } => carry_on(
+            image,
+            row,
+            port,
+            time,
+            octets,
+            destination,
+            vlan,
+            place,
+            priority,
+            policer,
+            meter,
+        ),
+    }
 }
 
 // All replicas of a frame on a VLAN, in table order, each on the row that the one before left; how many there are. What asks no VLAN is asked once.

@@ -2,16 +2,17 @@
 use mathlib.Core.Path.{_≡_, sym, subst}
 use mathlib.Core.List.{List}
 use native.Mathlib.Nat.{lt-of-lt-of-le}
-use Prim.Native.Nat.{ℕ}
-use Rattle.image.specs.Layout.{imageIn}
+use Prim.Native.Nat.{ℕ, _<_}
+use Rattle.image.specs.Layout.{imageIn, countOf}
 use Rattle.image.specs.Sound.{Sound}
 use Rattle.image.specs.declared.tables.Table.the-variants.{Policing}
 use Rattle.plan.specs.declared.Course.{Course}
 use Rattle.plan.specs.declared.Planned.{Planned}
 use Rattle.plan.specs.declared.Planned.the-variants.{Dropped, Goes}
+use Rattle.plan.specs.declared.Policed.the-variants.{By}
+use Rattle.plan.specs.Plan.{courseOf}
 use Rattle.plan.specs.Sane.{Sane, Follows}
-use Rattle.settle.specs.declared.Verdict.{Verdict}
-use Rattle.settle.specs.Settle.{Carries}
+use Rattle.plan.specs.Laws.{follows-by}
 use Rattle.settle.specs.Runs.{Runs, RunsAll}
 
 pub runs : (buffer : List ℕ) (w : Course) → Sound buffer → Sane (imageIn buffer) w → Runs w
@@ -26,6 +27,10 @@ plan-runs buffer p q s e f = subst RunsAll (sym e) (go q f)
     go (Dropped n) h = tt
     go (Goes w) h = runs buffer w s h
 
--- and what it comes to
-pub carries-as : (g : List ℕ) (time l : ℕ) (p q : Planned) (r : Verdict) (after : List ℕ) → p ≡ q → Carries g time l p r after → Carries g time l q r after
-carries-as g time l p q r after e c = subst (λ (x : Planned). Carries g time l x r after) e c
+-- a course w that a call handed over
+pub course-runs : (buffer : List ℕ) (port destination vlan place priority policer meter : ℕ) (w : Course) → Sound buffer → policer < countOf (imageIn buffer) Policing
+    → meter < countOf (imageIn buffer) Policing
+    → w ≡ courseOf (imageIn buffer) port destination vlan place priority policer meter
+    → Runs w
+course-runs buffer port destination vlan place priority policer meter w s p m e =
+    subst Runs (sym e) (runs buffer _ s (follows-by (imageIn buffer) port destination vlan place priority (By policer meter) (p, m)))

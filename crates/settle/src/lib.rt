@@ -7,20 +7,17 @@ use ledger::CREDIT;
 use ledger::SINCE;
 use ledger::UNITS;
 use plan::Course;
-use plan::Planned;
-use plan::Policed;
 use ports::Sending;
 use spend::Meter;
 ghost use mathlib.Core.Path.{_≡_};
 ghost use Prim.Native.Nat.{_<_};
 ghost use Rattle.image.specs.Layout.{imageIn, countOf};
 ghost use Rattle.image.specs.Sound.{Sound};
-ghost use Rattle.image.specs.declared.tables.Table.the-variants.{VlanLookup};
+ghost use Rattle.image.specs.declared.tables.Table.the-variants.{Policing, VlanLookup};
 ghost use Rattle.plan.specs.declared.Planned.the-variants.{Goes};
-ghost use Rattle.plan.specs.Plan.{byPolicer};
-ghost use Rattle.plan.specs.Sane.{Loaded};
+ghost use Rattle.plan.specs.Plan.{courseOf};
 ghost use Rattle.settle.specs.Settle.{verdictOf, settledOf, Carries};
-ghost use Rattle.settle.specs.Runs.{Runs, RunsAll};
+ghost use Rattle.settle.specs.Runs.{Runs};
 
 pub enum Verdict {
     Refused(u32),
@@ -100,19 +97,7 @@ fn run(row: &mut [u64; CELLS], course: Course, time: u64, octets: u64) -> Verdic
     s.verdict
 }
 
-// A plan on the row: a drop spends nothing.
-pub fn carry_out(row: &mut [u64; CELLS], planned: Planned, time: u64, octets: u64) -> Verdict
-    requires { ⌜ RunsAll planned ⌝ }
-    requires { ⌜ octets < 65536 ⌝ }
-    ensures { λ r. ⌜ Carries (now (row .entry)) time octets planned r (now (row .exit)) ⌝ }
-{
-    match planned {
-        Planned::Dropped(drop) => Verdict::Drop(drop),
-        Planned::Goes(course) => run(row, course, time, octets),
-    }
-}
-
-// Steps 7 to 11 on a VLAN, of a frame or of a replica, by what 7 and 8 answered: planned and carried out, in one function for both.
+// Steps 9 to 11 on a VLAN, of a frame or of a replica that entry `policer` lets through: its course, run.
 pub fn carry_on(
     image: &[u32],
     row: &mut [u64; CELLS],
@@ -123,14 +108,24 @@ pub fn carry_on(
     vlan: u64,
     place: usize,
     priority: u64,
-    policed: Policed,
+    policer: usize,
+    meter: usize,
 ) -> Verdict
     requires { ⌜ Sound (now image) ⌝ }
     requires { ⌜ (port < 5) × (place < countOf (imageIn (now image)) VlanLookup) × (priority < 8) ⌝ }
-    requires { ⌜ Loaded (imageIn (now image)) policed ⌝ }
+    requires { ⌜ (policer < countOf (imageIn (now image)) Policing) × (meter < countOf (imageIn (now image)) Policing) ⌝ }
     requires { ⌜ octets < 65536 ⌝ }
-    ensures { λ r. ⌜ Carries (now (row .entry)) time octets (byPolicer (imageIn (now (image .entry))) port destination vlan place priority policed) r (now (row .exit)) ⌝ }
+    ensures { λ r. ⌜ Carries (now (row .entry)) time octets (Goes (courseOf (imageIn (now (image .entry))) port destination vlan place priority policer meter)) r (now (row .exit)) ⌝ }
 {
-    let planned = plan::by_policer(image, port, destination, vlan, place, priority, policed);
-    carry_out(row, planned, time, octets)
+    let course = plan::course_on(
+        image,
+        port,
+        destination,
+        vlan,
+        place,
+        priority,
+        policer,
+        meter,
+    );
+    run(row, course, time, octets)
 }

@@ -1,13 +1,11 @@
 -- `judge::own`: by what steps 1 to 6 answered.
-use mathlib.Core.Path.{sym, subst}
+use mathlib.Core.Path.{subst}
 use Prim.Native.Nat.{ℕ, _+_, _≤_}
 use native.Mathlib.Omega.{arith}
 use borrow.Author.Needs.{needs}
 use denote.Ref.{now}
 use Rattle.image.specs.Layout.{imageIn}
 use Rattle.plan.specs.LetIn.{Through}
-use Rattle.plan.specs.Sane.{Loaded}
-use Rattle.plan.specs.Laws.{policed}
 use Rattle.judge.specs.Laws.{is-dropped, is-let-in}
 use Rattle.judge.proofs.own.Statement.{statement}
 use Rattle.judge.proofs.own.Tie as tie
@@ -26,18 +24,13 @@ own-spec =
     let s = c .before .before .before .before .before in
     long _ (subst (Through (imageIn (now (s .args .image))) (now (s .args .frame))) (c .before .entered2 .given .1) (s .pre .1 .1) .long))
     (λ c κs.
-    let s = c .before .before .before .before .before .before in
-    let h = subst (Through (imageIn (now (s .args .image))) (now (s .args .frame))) (c .before .before .entered2 .given .1) (s .pre .1 .1) in
-    (s .pre .0, (s .pre .1 .0 .0, h .narrow)))
-    (λ c κs.
-    let p = c .before in
-    let e = p .before .before .before in
+    let e = c .before .before .before in
     let s = e .before .before .before .before in
     let h = subst (Through (imageIn (now (s .args .image))) (now (s .args .frame))) (e .entered2 .given .1) (s .pre .1 .1) in
-    (s .pre .0, ((s .pre .1 .0 .0, h .there, h .narrow), (subst (Loaded (imageIn (now (s .args .image)))) (sym (p .police .ensures)) (policed _ _ _ _ _), s .pre .1 .0 .2))))
+    (s .pre .0, (s .pre .1 .0 .0, h .there, h .narrow, s .pre .1 .0 .2)))
     (λ c. is-dropped _ _ _ _ _ _ _ _ (c .before .entered .given .1))
     (λ c.
-    let p = c .before .before in
-    let e = p .before .before .before in
+    let m = c .before .before in
+    let e = m .before .before in
     let s = e .before .before .before .before in
-    is-let-in _ _ _ _ _ _ _ _ _ _ _ _ _ _ (e .entered2 .given .1) (p .before .mac-at .ensures) (s .pre .1 .0 .1) (p .police .ensures) (c .carry-on .ensures)))
+    is-let-in _ _ _ _ _ _ _ _ _ _ _ _ _ (e .entered2 .given .1) (m .mac-at .ensures) (s .pre .1 .0 .1) (c .let-in .ensures)))

@@ -1,8 +1,10 @@
--- `settle::carry_on`: the plan, carried out.
+-- `settle::carry_on`: the course, run.
+use mathlib.Core.Path.{sym, ap}
 use denote.Ref.{now}
 use Rattle.image.specs.Layout.{imageIn}
-use Rattle.plan.specs.Laws.{follows-by}
-use Rattle.settle.specs.RunsLaws.{plan-runs, carries-as}
+use Rattle.plan.specs.declared.Planned.the-variants.{Goes}
+use Rattle.settle.specs.Laws.{carries-as}
+use Rattle.settle.specs.RunsLaws.{course-runs}
 use Rattle.settle.proofs.carry_on.Statement.{statement}
 use Rattle.settle.proofs.carry_on.Tie as tie
 
@@ -14,6 +16,5 @@ carry-on-spec =
     (λ c κs.
     let p = c .before in
     let s = p .before .before .pre in
-    let a = p .before .before .args in
-    (plan-runs _ _ _ (s .0) (p .by-policer .ensures) (follows-by (imageIn (now (a .image))) (a .port) (a .destination) (a .vlan) (a .place) (a .priority) (a .policed) (s .1 .1 .0)), s .1 .1 .1))
-    (λ c. carries-as _ _ _ _ _ _ _ (c .before .before .by-policer .ensures) (c .carry-out .ensures)))
+    (course-runs _ _ _ _ _ _ _ _ _ (s .0) (s .1 .1 .0 .0) (s .1 .1 .0 .1) (p .course-on .ensures), s .1 .1 .1))
+    (λ c. carries-as _ _ _ _ _ _ _ (ap Goes (sym (c .before .before .course-on .ensures))) (c .run .ensures)))
