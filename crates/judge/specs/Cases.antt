@@ -1,5 +1,5 @@
 -- A judgement by cases: refused; dropped before the meter; dropped at 9 to 11; sent. Whoever needs to know what a judgement leaves cites this law;
--- outside this crate nothing opens `judgeOf` or `callOf`.
+-- outside this crate nothing opens `callOf`, and `judgeOf` only K's night, which computes it.
 use mathlib.Core.Path.{_≡_, refl, sym}
 use mathlib.Core.Bool.{Bool, true, false, cond}
 use mathlib.Core.List.{List, []}
