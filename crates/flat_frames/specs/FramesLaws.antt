@@ -1,7 +1,7 @@
 -- Each call by the promise below it; that each promise permits one outcome; and that the numbers are what document 01 says.
-use mathlib.Core.Path.{_≡_, refl, sym, _∙_, ap}
+use mathlib.Core.Path.{_≡_, refl, sym, _∙_, ap, subst}
 use mathlib.Core.List.{List}
-use Prim.Native.Nat.{ℕ}
+use Prim.Native.Nat.{ℕ, _≤_}
 use Rattle.ledger.specs.declared.Answer.{Answer}
 use Rattle.ledger.specs.Answers.{numberOf}
 use Rattle.ledger.specs.AnswersLaws.{numbered}
@@ -15,7 +15,8 @@ use Rattle.tile.specs.declared.shares.Tile.the-variants as shown
 use Rattle.tile.specs.declared.shares.Asked.the-variants as askeds
 use Rattle.tile.specs.Tiles as asked
 use Rattle.judge.specs.declared.Judgement.{Judgement}
-use Rattle.judge.specs.Judge.{Judges}
+use Rattle.judge.specs.Judge.{callOf, answerOf, Judges}
+use Rattle.judge.specs.Proved as judge
 use Rattle.tile.specs.declared.shares.Asked.{Asked}
 use Rattle.tile.specs.Tiles.{Tiled}
 use Rattle.flat_answers.specs.declared.FlatVerdict.{FlatVerdict}
@@ -47,6 +48,13 @@ pub one-judged : (buffer g : List ℕ) (port time : ℕ) (frame places : List �
     → JudgesFlat buffer g port time frame places s b u
     → (r ≡ s) × (a ≡ b) × (t ≡ u)
 one-judged buffer g port time frame places r s a b t u p q = (p .answer ∙ sym (q .answer), p .row ∙ sym (q .row), p .laid ∙ sym (q .laid))
+
+-- there is a place for each replica
+pub few-replicas : (buffer g : List ℕ) (port time : ℕ) (frame places : List ℕ) (r : FlatJudged) (after told : List ℕ) → JudgesFlat buffer g port time frame places r after told
+    → r .replicas ≤ 32
+few-replicas buffer g port time frame places r after told p =
+    subst (λ (j : FlatJudged). j .replicas ≤ 32) (sym (p .answer))
+    (judge.few-replicas buffer g port time frame places (answerOf (callOf buffer g port time frame)) after told (record { answer = refl; said = refl; row = p .row; laid = p .laid }))
 
 pub releases : (buffer g : List ℕ) (partition : ℕ) (a : Answer) (r : ℕ) (after : List ℕ) → Released buffer g partition a after → r ≡ numberOf a
     → ReleasesFlat buffer g partition r after

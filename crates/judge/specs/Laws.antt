@@ -1,9 +1,8 @@
 -- That a frame which is not refused has it, its plan, and its promise.
-use mathlib.Core.Path.{_≡_, refl, sym, _∙_, ap, subst}
+use mathlib.Core.Path.{_≡_, refl, sym, _∙_, ap}
 use mathlib.Core.Bool.{Bool, true, false, cond}
 use mathlib.Core.List.{List}
 use Prim.Native.Nat.{ℕ, _<_, _≤_}
-use native.Mathlib.Nat.{lt-of-lt-of-le}
 use native.Mathlib.Omega.{arith}
 use lib.Dec.{ltb, leb, eqb}
 use lib.ListN.{length}
@@ -11,7 +10,6 @@ use borrow.Author.Tests.{ltb-false, leb-false, eqb-true, eqb-false}
 use Rattle.laws.specs.Chain.{none-first, none-rest, zero-first, zero-rest, at-zero, not-zero}
 use Rattle.image.specs.Layout.{imageIn}
 use Rattle.image.specs.Sound.{Sound}
-use Rattle.image.specs.declared.tables.Table.the-variants.{Policing}
 use Rattle.ledger.specs.Row.{frames, last, cell}
 use Rattle.ledger.specs.Range.{latest, standing}
 use Rattle.ledger.specs.Stands.{Stands}
@@ -24,8 +22,8 @@ use Rattle.plan.specs.declared.Policed.{Policed}
 use Rattle.plan.specs.Police.{policedOf}
 use Rattle.plan.specs.Plan.{byPolicer, planOf}
 use Rattle.plan.specs.declared.Planned.{Planned}
-use Rattle.plan.specs.declared.Planned.the-variants.{Dropped, Goes}
-use Rattle.plan.specs.Sane.{Sane, Follows}
+use Rattle.plan.specs.declared.Planned.the-variants.{Dropped}
+use Rattle.plan.specs.Sane.{Follows}
 use Rattle.plan.specs.Laws.{follows}
 use Rattle.settle.specs.declared.Verdict.{Verdict}
 use Rattle.settle.specs.declared.Verdict.the-variants.{Refused, Drop}

@@ -1,14 +1,17 @@
 -- What pins a judgement: a refused one changes nothing and has no replica, a buffer's rest has no part in it, and a frame with no entry of 12 to name it is
 -- judged by itself.
-use mathlib.Core.Path.{_≡_, refl, _∙_, ap}
+use mathlib.Core.Path.{_≡_, refl, sym, _∙_, ap, subst}
 use mathlib.Core.Bool.{Bool, true, false, cond}
 use mathlib.Core.List.{List, []}
-use Prim.Native.Nat.{ℕ, _<_}
+use Prim.Native.Nat.{ℕ, _<_, _≤_, zero-le}
+use native.Mathlib.Nat.{le-trans}
 use lib.Dec.{eqb}
-use borrow.Author.Tests.{ne-eqb}
+use lib.ListN.{length}
+use borrow.Author.Tests.{ne-eqb, eqb-true}
 use Rattle.image.specs.Layout.{imageIn, countOf}
 use Rattle.image.specs.declared.tables.Table.the-variants.{Retagging}
 use Rattle.image.specs.Loaded.{tooShort}
+use Rattle.image.specs.Sound.{Sound}
 use Rattle.ledger.specs.Range.{standing}
 use Rattle.ledger.specs.Proved.{same-standing}
 use Rattle.frame.specs.Bytes.{octetsOf}
@@ -18,9 +21,11 @@ use Rattle.plan.specs.Enter.{enterOf}
 use Rattle.settle.specs.declared.Verdict.the-variants.{Refused}
 use Rattle.settle.specs.Settle.{Judged, judged, carriedOut}
 use Rattle.replica.specs.Replica.{names, replicas, replicasOf}
-use Rattle.replica.specs.Proved.{none-named}
+use Rattle.replica.specs.Proved.{one-each, none-named}
+use Rattle.judge.specs.declared.Judgement.{Judgement}
 use Rattle.judge.specs.Refusal.{unjudged, refusalOf}
-use Rattle.judge.specs.Judge.{planFor, notedOf, judgeOf, enteredOf, Called, called, byItself, callOf}
+use Rattle.judge.specs.Judge.{planFor, notedOf, judgeOf, enteredOf, Called, called, byItself, callOf, Judges}
+use Rattle.judge.specs.Laws.{admitted}
 
 -- "call refusals .. change nothing"
 pub refused-unchanged : (buffer g : List ℕ) (port time : ℕ) (frame : List ℕ) → (refusalOf buffer g port time frame ≡ 0 → ⊥)
@@ -91,3 +96,26 @@ no-match buffer g port time frame none = ap (called (judgeOf buffer g port time 
         ≡ replicas [] (judgeOf buffer g port time frame .row)
     by true = let-in (enterOf (imageIn buffer) port frame) refl
     by false = refl
+
+-- 12 has at most 32 entries in an image that is judged: there is a lent place for each replica
+at-most-32 : (buffer g : List ℕ) (port time : ℕ) (frame : List ℕ) → length (callOf buffer g port time frame .replicas) ≤ 32
+unfolding callOf enteredOf
+at-most-32 buffer g port time frame = by (eqb (refusalOf buffer g port time frame) 0) refl
+  where
+    let-in : Sound buffer → (q : Entered) → length (replicasOf (imageIn buffer) (judgeOf buffer g port time frame .row) port time frame q .verdicts) ≤ 32
+    let-in s (entered.Dropped n) = zero-le
+    let-in s (entered.In vlan place priority) =
+        le-trans (one-each (imageIn buffer) (judgeOf buffer g port time frame .row) port time frame vlan priority (countOf (imageIn buffer) Retagging)) (s .within .within Retagging)
+
+    by : (t : Bool) → t ≡ eqb (refusalOf buffer g port time frame) 0
+        → length
+        (replicasOf (imageIn buffer) (judgeOf buffer g port time frame .row) port time frame
+        (cond t (enterOf (imageIn buffer) port frame) (entered.Dropped (refusalOf buffer g port time frame))) .verdicts)
+        ≤ 32
+    by true e = let-in (admitted buffer g port time frame (eqb-true (refusalOf buffer g port time frame) 0 (sym e)) .image) (enterOf (imageIn buffer) port frame)
+    by false e = zero-le
+
+pub few-replicas : (buffer g : List ℕ) (port time : ℕ) (frame places : List ℕ) (r : Judgement) (after told : List ℕ) → Judges buffer g port time frame places r after told
+    → r .replicas ≤ 32
+few-replicas buffer g port time frame places r after told p =
+    subst (λ (j : Judgement). j .replicas ≤ 32) (sym (p .answer)) (at-most-32 buffer g port time frame)

@@ -1,5 +1,4 @@
 -- Verdicts in lent places, ten numbers each: what a frame's call says of its replicas (document 02, request 2; D104).
-use mathlib.Core.Path.{_≡_}
 use mathlib.Core.List.{List, [], _∷_, _++_}
 use Prim.Native.Nat.{ℕ, zero, suc, _+_, _*_}
 use lib.ListN.{length, take, drop, set}

@@ -1,7 +1,6 @@
 -- What pins a verdict's ten numbers: the words of D104, computed for one of each kind.
 use mathlib.Core.Path.{_≡_, refl}
-use mathlib.Core.List.{List, [], _∷_}
-use Prim.Native.Nat.{ℕ}
+use mathlib.Core.List.{[], _∷_}
 use Rattle.settle.specs.declared.Verdict.the-variants.{Refused, Drop, Sent}
 use Rattle.places.specs.Places.{tenOf}
 

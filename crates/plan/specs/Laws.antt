@@ -1,5 +1,5 @@
 -- That every plan's course has it.
-use mathlib.Core.Path.{_≡_, refl, sym, _∙_, ap, subst}
+use mathlib.Core.Path.{_≡_, refl, sym, _∙_, ap}
 use mathlib.Core.Bool.{Bool, true, false, cond}
 use mathlib.Core.List.{List}
 use Prim.Native.Nat.{ℕ, _<_}
@@ -7,9 +7,7 @@ use native.Mathlib.Nat.{mod-lt}
 use lib.Pow.{pow-pos}
 use lib.Dec.{ltb, leb}
 use borrow.Author.Tests.{leb-false}
-use Rattle.image.specs.Layout.{imageIn, countOf, Held}
-use Rattle.image.specs.Sound.{Sound}
-use Rattle.image.specs.SoundLaws.{held}
+use Rattle.image.specs.Layout.{countOf}
 use Rattle.image.specs.declared.tables.Table.the-variants.{Policing}
 use Rattle.fields.specs.Fields.{sharindx, maxlen, smax, rate, partition}
 use Rattle.frame.specs.Bytes.{octetsOf, destinationOf}

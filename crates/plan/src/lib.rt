@@ -28,7 +28,7 @@ pub struct Course {
     pub sending: Sending,
 }
 
-// Dropped at 7 or 8, or the course of steps 9 to 11.
+// Dropped at 7 or 8, or the course of steps 9 to 11: what contracts say of a frame or a replica, and no function hands over.
 pub enum Planned {
     Dropped(u32),
     Goes(Course),

@@ -3,7 +3,7 @@
 -- equal images say of replicas stands with the demands.
 use mathlib.Core.Path.{_≡_}
 use mathlib.Core.List.{List, map}
-use Prim.Native.Nat.{ℕ, _<_}
+use Prim.Native.Nat.{ℕ, _<_, _≤_}
 use Rattle.laws.specs.Scan.{total, flag}
 use Rattle.image.specs.Layout.{imageIn, countOf}
 use Rattle.image.specs.declared.tables.Table.the-variants.{Retagging}
@@ -13,9 +13,11 @@ use Rattle.places.specs.Places.{tenOf, heard}
 use Rattle.replica.specs.Replica.{names}
 use Rattle.judge.specs.declared.Judgement.{Judgement}
 use Rattle.judge.specs.Judge.{judgeOf, Judges}
+use Rattle.judge.specs.Proved as judge
 use Rattle.flat_answers.specs.Answers.{flatVerdict}
 use Rattle.flat_frames.specs.declared.FlatJudged.{FlatJudged}
 use Rattle.flat_frames.specs.Frames.{JudgesFlat}
+use Rattle.flat_frames.specs.FramesLaws as frames
 use Rattle.exactly.specs.First.{Some, NoneBefore}
 use Rattle.exactly.specs.Steps.{vlanOf, framePage}
 use Rattle.exactly.specs.Replicas.{Names, Replicated}
@@ -46,6 +48,12 @@ pub as-many-as-match : (buffer g : List ℕ) (port time : ℕ) (frame places : L
     → NoneBefore 7 (framePage buffer g port time frame)
     → r .replicas ≡ total (countOf (imageIn buffer) Retagging) (λ i. flag (names (imageIn buffer) port (vlanOf (imageIn buffer) port frame) i))
 as-many-as-match = matching.as-many-as-match
+
+-- and never more than there are places
+pub few-replicas : (buffer g : List ℕ) (port time : ℕ) (frame places : List ℕ) (r : Judgement) (after told : List ℕ)
+    → Judges buffer g port time frame places r after told
+    → r .replicas ≤ 32
+few-replicas = judge.few-replicas
 
 -- a sent replica's ports, tags and queues are those of a frame on that VLAN
 pub as-a-frame-on-that-vlan : (buffer g : List ℕ) (port time : ℕ) (frame places : List ℕ) (r : Judgement) (after told : List ℕ)
@@ -79,3 +87,8 @@ pub as-many-as-match-flat : (buffer g : List ℕ) (port time : ℕ) (frame place
     → NoneBefore 7 (framePage buffer g port time frame)
     → r .replicas ≡ total (countOf (imageIn buffer) Retagging) (λ i. flag (names (imageIn buffer) port (vlanOf (imageIn buffer) port frame) i))
 as-many-as-match-flat = matching.as-many-as-match-flat
+
+pub few-replicas-flat : (buffer g : List ℕ) (port time : ℕ) (frame places : List ℕ) (r : FlatJudged) (after told : List ℕ)
+    → JudgesFlat buffer g port time frame places r after told
+    → r .replicas ≤ 32
+few-replicas-flat = frames.few-replicas

@@ -2,7 +2,7 @@
 use mathlib.Core.Path.{_≡_, refl, sym, _∙_, ap}
 use mathlib.Core.Bool.{Bool, true, false, cond, not, true≢false}
 use mathlib.Core.List.{List, [], _∷_}
-use Prim.Native.Nat.{ℕ, zero, suc, _+_, _<_}
+use Prim.Native.Nat.{ℕ, zero, suc, _+_, _<_, _≤_, zero-le}
 use native.Mathlib.Nat.{add-zero}
 use native.Mathlib.Omega.{arith}
 use lib.Dec.{eqb}
@@ -35,6 +35,21 @@ module _ (image g : List ℕ) (port time : ℕ) (frame : List ℕ) (vlan priorit
           ∙ k
           ∙ sym (add-zero _)
           ∙ ap (λ (t : Bool). total n (λ i. flag (names image port vlan i)) + flag t) (sym e)
+
+  -- so at most one for each entry
+  pub one-each : (n : ℕ) → length (replicasTo image g port time frame vlan priority n .verdicts) ≤ n
+  unfolding replicasTo
+  one-each zero = zero-le
+  one-each (suc n) = by (names image port vlan n) refl (one-each n)
+    where
+      by : (t : Bool) → names image port vlan n ≡ t → length (replicasTo image g port time frame vlan priority n .verdicts) ≤ n
+          → length (replicasTo image g port time frame vlan priority (suc n) .verdicts) ≤ suc n
+      by true e k =
+          let l =
+          ap (λ (r : Replicas). length (r .verdicts)) (to-more image g port time frame vlan priority n e)
+          ∙ length-append (replicasTo image g port time frame vlan priority n .verdicts) (_ ∷ []) in
+          omega (arith, l, k)
+      by false e k = let l = ap (λ (r : Replicas). length (r .verdicts)) (to-same image g port time frame vlan priority n e) in omega (arith, l, k)
 
   pub none-named : (n : ℕ) → ((i : ℕ) → i < n → names image port vlan i ≡ false) → replicasTo image g port time frame vlan priority n ≡ replicas [] g
   unfolding replicasTo

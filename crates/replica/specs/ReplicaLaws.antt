@@ -1,7 +1,7 @@
 -- What replicas have, as entry after entry is passed.
 use mathlib.Core.Path.{_≡_, refl, sym, _∙_, ap, subst}
 use mathlib.Core.Bool.{Bool, true, false}
-use mathlib.Core.List.{List, [], _∷_, _++_}
+use mathlib.Core.List.{List, [], _∷_}
 use Prim.Native.Nat.{ℕ, suc, _+_, _*_, _<_, _≤_, zero-le}
 use native.Mathlib.Numerals.{add-one}
 use native.Mathlib.Omega.{arith}
@@ -17,7 +17,6 @@ use Rattle.plan.specs.declared.enter.Placed.the-variants.{Absent, At}
 use Rattle.plan.specs.declared.enter.Entered.{Entered}
 use Rattle.plan.specs.declared.enter.Entered.the-variants as entered
 use Rattle.plan.specs.Steps.{placedOf}
-use Rattle.plan.specs.declared.Planned.{Planned}
 use Rattle.plan.specs.declared.Planned.the-variants.{Dropped}
 use Rattle.plan.specs.declared.Policed.{Policed}
 use Rattle.plan.specs.Police.{policedOf}
@@ -27,11 +26,11 @@ use Rattle.plan.specs.Laws.{follows}
 use Rattle.settle.specs.declared.Verdict.{Verdict}
 use Rattle.settle.specs.declared.Verdict.the-variants.{Drop}
 use Rattle.settle.specs.Laws.{carries-as, drop-carries}
-use Rattle.settle.specs.Settle.{Judged, judged, carriedOut, Carries}
-use Rattle.places.specs.Places.{putIn, laidOver}
+use Rattle.settle.specs.Settle.{Judged, carriedOut, Carries}
+use Rattle.places.specs.Places.{putIn}
 use Rattle.places.specs.PlacesLaws.{laid-none, laid-more}
 use Rattle.replica.specs.Replicating.{Replicating}
-use Rattle.replica.specs.Replica.{names, byPoliced, plannedBy, byPlaced, replicaPlan, Replicas, replicas, replicaOn, joined, replicasTo, replicasIn, replicasOf, Replicates}
+use Rattle.replica.specs.Replica.{names, byPoliced, plannedBy, byPlaced, replicaPlan, Replicas, replicaOn, joined, replicasTo, replicasIn, replicasOf, Replicates}
 
 -- ---- a replica's plan
 

@@ -1,5 +1,4 @@
 -- `plan::course_on`: the fields that were read are the course's.
-use borrow.Author.Needs.{needs}
 use Rattle.image.specs.SoundLaws.{held}
 use Rattle.image.specs.declared.tables.Table.the-variants.{Policing}
 use Rattle.plan.specs.Laws.{same-course}

@@ -8,7 +8,6 @@ use denote.Ref.{now}
 use Rattle.laws.specs.Chain.{lt-of}
 use Rattle.image.specs.Layout.{imageIn}
 use Rattle.image.specs.SoundLaws.{held}
-use Rattle.image.specs.declared.tables.Table.the-variants.{Retagging}
 use Rattle.plan.specs.Sane.{Loaded}
 use Rattle.plan.specs.Laws.{policed}
 use Rattle.replica.specs.Replicating.{Replicating}

@@ -1,7 +1,5 @@
 -- `settle::carry_on`: the course, run.
 use mathlib.Core.Path.{sym, ap}
-use denote.Ref.{now}
-use Rattle.image.specs.Layout.{imageIn}
 use Rattle.plan.specs.declared.Planned.the-variants.{Goes}
 use Rattle.settle.specs.Laws.{carries-as}
 use Rattle.settle.specs.RunsLaws.{course-runs}

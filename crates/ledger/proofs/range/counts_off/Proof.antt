@@ -1,11 +1,11 @@
 -- `ledger::range::counts_off`: the clauses in their order; without frames, whether there is another count.
 use mathlib.Core.Path.{_≡_, refl, sym, _∙_, ap}
 use mathlib.Core.Bool.{Bool, true, false, cond}
-use Prim.Native.Nat.{ℕ, _*_, _<_, zero-le}
+use Prim.Native.Nat.{ℕ, zero-le}
 use native.Mathlib.Nat.{pos-of-ne-zero}
 use lib.Dec.{ltb}
 use borrow.Author.Needs.{needs}
-use borrow.Author.Tests.{lt-ltb, le-ltb}
+use borrow.Author.Tests.{le-ltb}
 use Rattle.laws.specs.Chain.{chain, hit-lt}
 use Rattle.ledger.specs.Range.{octetsOff, countsOff}
 use Rattle.ledger.proofs.range.counts_off.Statement.{statement}

@@ -1,6 +1,5 @@
 -- `verdict::print::replicas`: the replicas that are left fall, and each has its place.
 use Prim.Native.Nat.{_-_}
-use native.Mathlib.Omega.{arith}
 use borrow.Author.Needs.{needs}
 use Rattle.verdict.proofs.print.replicas.Statement.{statement}
 use Rattle.verdict.proofs.print.replicas.Tie as tie
