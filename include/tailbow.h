@@ -81,7 +81,6 @@ extern "C" {
 #define TAILBOW_REFUSED_SHARINDX 23u           /* a SHARINDX isn't below the count of 06 */
 #define TAILBOW_REFUSED_PART_SPC 24u           /* the eight PART_SPC add up to more than 929 */
 #define TAILBOW_REFUSED_INDEX_TWICE 25u        /* two entries of 05 have one INDEX */
-#define TAILBOW_REFUSED_RETAG_SPACE 27u        /* 12 has an entry, and the eight PART_SPC add up to more than 910 */
 #define TAILBOW_REFUSED_RETAG_VLAN 28u         /* an entry of 12 has a VLAN_ING or VLAN_EGR that no entry of 07 has */
 
 /* A refused call. */
@@ -169,7 +168,7 @@ void tailbow_fresh_load(struct tailbow_load *load);
  *                 any cutting into writes give the same image.
  * 1 to 8          The first framing rule broken, at a block in the order 8 for an end block; else 2, 3, 4, 5, 6, and 7 after the data.
  *                 The image is zero.
- * a rule's number The first loading rule broken, in the order 20, 21, 22, 23, 24, 27, 25, 28. The image is zero.
+ * a rule's number The first loading rule broken. The image is zero.
  *
  * Words behind an answer are ignored. Afterwards *load is the state for the next write: after an answer it holds
  * TAILBOW_PHASE_TOLD and the answer, all else 0. In TAILBOW_PHASE_DATA `table` is the table of the block that is under way. In any other

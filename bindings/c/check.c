@@ -331,10 +331,10 @@ static void make_block(uint32_t id, const uint32_t *data, size_t count)
 }
 
 /*
- * K's blocks with PART_SPC(0) at this number; VLAN 2 with all ports in VMEMB_PORT, VLAN_BC and TAG_PORT; a block 12 with these words, where
- * there are any; the end. The load's answer; the image is K's with retagging where that is TAILBOW_LOADED.
+ * K's blocks with PART_SPC(0) at 3; VLAN 2 with all ports in VMEMB_PORT, VLAN_BC and TAG_PORT; a block 12 with these words, where there are
+ * any; the end. The load's answer; the image is K's with retagging where that is TAILBOW_LOADED.
  */
-static uint32_t load_units(uint32_t units, const uint32_t *data, size_t count)
+static uint32_t load_retagging(const uint32_t *data, size_t count)
 {
     static const uint32_t vlan_2[] = {0x10000000, 0x003FFF80};
     uint32_t block[128];
@@ -345,7 +345,7 @@ static uint32_t load_units(uint32_t units, const uint32_t *data, size_t count)
         memcpy(block, words + at + 3, words[at + 1] * sizeof *block);
         if (words[at] >> 24 == 0x0E) {
             HOLDS(block[0] == 1 << 13);
-            block[0] = units << 13;
+            block[0] = 3 << 13;
         }
         make_block(words[at] >> 24, block, words[at + 1]);
     }
@@ -355,12 +355,6 @@ static uint32_t load_units(uint32_t units, const uint32_t *data, size_t count)
     made[made_words] = made[made_words + 1] = 0;
     made[made_words + 2] = checksum(made, made_words + 2);
     return tailbow_load_words(image, TAILBOW_IMAGE_WORDS, made, made_words + 3);
-}
-
-/* With three units. */
-static uint32_t load_retagging(const uint32_t *data, size_t count)
-{
-    return load_units(3, data, count);
 }
 
 /* ING_PORT 1 and VLAN_ING 1: to VLAN 2, and to VLAN 1 again. */
@@ -438,18 +432,6 @@ static void refused_retagging(void)
     HOLDS(load_retagging(too_many, 2 * (TAILBOW_REPLICAS + 1)) == TAILBOW_REFUSED_TOO_MANY_ENTRIES && image_is(0));
 }
 
-/* The most units with an entry in 12, and without one. */
-static void most_units(void)
-{
-    static const uint32_t entry[] = {TO_2};
-    HOLDS(load_units(910, entry, 2) == TAILBOW_LOADED);
-    HOLDS(load_units(911, entry, 2) == TAILBOW_REFUSED_RETAG_SPACE && image_is(0));
-    HOLDS(load_units(929, entry, 2) == TAILBOW_REFUSED_RETAG_SPACE && image_is(0));
-    HOLDS(load_units(930, entry, 2) == TAILBOW_REFUSED_PART_SPC && image_is(0));
-    HOLDS(load_units(929, entry, 0) == TAILBOW_LOADED);
-    HOLDS(load_units(930, entry, 0) == TAILBOW_REFUSED_PART_SPC && image_is(0));
-}
-
 /* A null pointer with length 0, in every place. The image is K's. */
 static void nulls(void)
 {
@@ -494,7 +476,6 @@ int main(int arguments, char **argument)
         one_replica();
         many_replicas();
         refused_retagging();
-        most_units();
     }
     printf("%u passed, %u failed\n", passed, failed);
     return failed == 0 ? 0 : 1;

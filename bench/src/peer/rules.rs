@@ -3,8 +3,6 @@
 use super::image::*;
 
 const MOST_UNITS: u64 = 929;
-/// With an entry in 12.
-const MOST_UNITS_RETAGGING: u64 = 910;
 
 /// 0 where none is broken. Counts are within their limits.
 pub fn first_broken_rule(image: &Image) -> u32 {
@@ -33,12 +31,8 @@ pub fn first_broken_rule(image: &Image) -> u32 {
     if outside {
         return 23;
     }
-    let units = part_spc(image).iter().sum::<u64>();
-    if units > MOST_UNITS {
+    if part_spc(image).iter().sum::<u64>() > MOST_UNITS {
         return 24;
-    }
-    if (units > MOST_UNITS_RETAGGING) & (count(image, RETAGGING) > 0) {
-        return 27;
     }
     let mut marks = [0u8; 1024];
     let addresses = entries::<3>(image, ADDRESSES);

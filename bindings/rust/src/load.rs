@@ -46,8 +46,7 @@ impl Load {
     /// Refusals of the call, in this order, leave the image and the load as found: 31 for a buffer below
     /// [`IMAGE_WORDS`](crate::IMAGE_WORDS), 30 for a load already begun whose image holds a count above its limit or that has more
     /// words due than the block's table has room for, 32 for 0 words or more than 64. Once an answer has been told it is repeated, and
-    /// nothing is written. 1 to 8 and a loading rule's number, the first broken of 20 to 24, 27, 25, 28, leave the image zero; words
-    /// behind an answer are ignored.
+    /// nothing is written. 1 to 8 and a loading rule's number leave the image zero; words behind an answer are ignored.
     pub fn write(&mut self, image: &mut [u32], words: &[u32]) -> Answer {
         Answer::of(raw::write(image, &mut self.flat, words))
     }

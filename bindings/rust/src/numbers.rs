@@ -59,7 +59,6 @@ numbered! {
         Sharindx = 23, "some SHARINDX isn't below the count of 06";
         PartSpc = 24, "the eight PART_SPC add up to more than 929";
         IndexTwice = 25, "two entries of 05 have one INDEX";
-        RetagSpace = 27, "12 has an entry, and the eight PART_SPC add up to more than 910";
         RetagVlan = 28, "an entry of 12 has a VLAN_ING or VLAN_EGR that no entry of 07 has";
         Image = 30, "the image or the load state can't be believed";
         BufferShort = 31, "the image's buffer is too short";

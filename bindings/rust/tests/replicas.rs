@@ -36,8 +36,8 @@ fn push_block(stream: &mut Vec<u32>, id: u32, data: &[u32]) {
     stream.push(checksum(data));
 }
 
-/// K with so many units in partition 0 and VLAN 2 besides, and this data in a block 12; none has no such block.
-fn stream_with(units: u32, data: &[u32]) -> Vec<u32> {
+/// K with three units in partition 0 and VLAN 2 besides, and this data in a block 12; none has no such block.
+fn stream_with(data: &[u32]) -> Vec<u32> {
     let file = Path::new(env!("CARGO_MANIFEST_DIR")).join("../../examples/k.stream");
     let bytes = std::fs::read(&file).unwrap_or_else(|error| panic!("{}: {error}", file.display()));
     let k: Vec<u32> =
@@ -50,7 +50,7 @@ fn stream_with(units: u32, data: &[u32]) -> Vec<u32> {
         if k[at] == 0x0E << 24 {
             // PART_SPC(0) 22:13, which K has at 1 among zeros.
             assert_eq!(block[0], 1 << 13);
-            block[0] = units << 13;
+            block[0] = 3 << 13;
         }
         push_block(&mut stream, k[at] >> 24, &block);
         at += length + 4;
@@ -64,14 +64,9 @@ fn stream_with(units: u32, data: &[u32]) -> Vec<u32> {
     stream
 }
 
-fn load_with(units: u32, data: &[u32]) -> (Answer, Vec<u32>) {
-    let mut image = vec![0xA5A5_A5A5; IMAGE_WORDS];
-    (load_words(&mut image, &stream_with(units, data)), image)
-}
-
-/// With three units.
 fn load(data: &[u32]) -> (Answer, Vec<u32>) {
-    load_with(3, data)
+    let mut image = vec![0xA5A5_A5A5; IMAGE_WORDS];
+    (load_words(&mut image, &stream_with(data)), image)
 }
 
 /// The image with these entries in 12.
@@ -231,24 +226,4 @@ fn block_12_by_its_refusals() {
     assert_eq!(answer(&[0x8000_0000, 0x0000_0400]), Answer::Loaded);
     // What is not read may be anything: EGR_PORT, and all behind VLAN_EGR.
     assert_eq!(answer(&[0xBFFF_FFFF, 0xF840_0400]), Answer::Loaded);
-}
-
-/// With an entry in 12, and without one: what is refused leaves the image zero.
-#[test]
-fn the_most_units() {
-    let refused = |refusal| Answer::Refused(refusal);
-    for (units, with_entry, without) in [
-        (910, Answer::Loaded, Answer::Loaded),
-        (911, refused(Refusal::RetagSpace), Answer::Loaded),
-        (929, refused(Refusal::RetagSpace), Answer::Loaded),
-        (930, refused(Refusal::PartSpc), refused(Refusal::PartSpc)),
-    ] {
-        // The second entry has no port in ING_PORT.
-        let entries: [&[u32]; 3] = [&[], &TO_2, &[0x8000_0000, 0x0000_0400]];
-        for (data, expected) in entries.into_iter().zip([without, with_entry, with_entry]) {
-            let (answer, image) = load_with(units, data);
-            assert_eq!(answer, expected, "{units} units, {data:08X?}");
-            assert_eq!(image == vec![0; IMAGE_WORDS], answer != Answer::Loaded);
-        }
-    }
 }

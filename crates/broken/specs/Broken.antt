@@ -1,5 +1,5 @@
 -- When an image breaks a loading rule after 20 (document 01, "Numbers for a refused load", and document 02).
-use Rattle.std.specs.Prelude.{Bool, true, false, cond, not, List, ℕ, ltb, eqb}
+use Rattle.std.specs.Prelude.{Bool, true, cond, not, List, ℕ, ltb, eqb}
 use Rattle.laws.specs.Scan.{some_below, total, twice}
 use Rattle.image.specs.Layout.{count_of}
 use Rattle.image.specs.declared.tables.Table.TheVariants.{AddressLookup, Policing, VlanLookup, Retagging}
@@ -22,17 +22,9 @@ vlan_missing image = some_below 5 (λ port. no_vlan image (port_vlanid image por
 abbrev pub sharindx_beyond : List ℕ → Bool
 sharindx_beyond image = some_below (count_of image Policing) (λ i. not (ltb (sharindx image i) (count_of image Policing)))
 
--- what "the eight PART_SPC add up to"
-abbrev pub spaces : List ℕ → ℕ
-spaces image = total 8 (λ j. part_spc image j)
-
 -- 24: "the eight PART_SPC add up to more than 929"
 abbrev pub space_over : List ℕ → Bool
-space_over image = ltb 929 (spaces image)
-
--- 27: "With at least one retagging entry, the eight partitions may add up to 910 at most"
-abbrev pub retag_space_over : List ℕ → Bool
-retag_space_over image = cond (ltb 0 (count_of image Retagging)) (ltb 910 (spaces image)) false
+space_over image = ltb 929 (total 8 (λ j. part_spc image j))
 
 -- 25: "two entries of 05 have one INDEX"
 abbrev pub index_twice : List ℕ → Bool

@@ -1,11 +1,11 @@
 // The tests of the loading rules after 20: is it broken? One pass each; 21, 22 and 28 share the one over 07. Their numbers and their order are said in `rules`.
-ghost use Rattle.std.specs.Prelude.{◌≡◌, ◌<◌, length, replicate};
+ghost use Rattle.std.specs.Prelude.{◌≡◌, ◌<◌, length};
 ghost use Rattle.image.specs.Layout.{Held, image_in, count_of};
 ghost use Rattle.image.specs.Sound.{Bounded};
 ghost use Rattle.image.specs.declared.tables.Table.TheVariants.{VlanLookup, MacConfiguration, ForwardingParameters, Retagging};
 ghost use Rattle.fields.specs.Fields.{vlanid};
 ghost use Rattle.laws.specs.Scan.{Marks};
-ghost use Rattle.broken.specs.Broken.{vlan_missing, sharindx_beyond, spaces, space_over, retag_space_over, index_twice, stray, retag_stray};
+ghost use Rattle.broken.specs.Broken.{vlan_missing, sharindx_beyond, space_over, index_twice, stray, retag_stray};
 ghost use Rattle.broken.specs.Passes.{Vlans};
 
 use image::count;
@@ -22,23 +22,30 @@ fn wide(x: u8) -> usize
     x as usize
 }
 
-// One pass over 07 for rules 21, 22 and 28: a mark for each VLANID. It answers how often a mark was set already when its VLANID came.
-// The marks are lent: handed back they may be copied, for every load.
-pub fn vlans_seen(image: &[u32], marks: &mut [u8; VLANIDS]) -> usize
-    requires bounded { Bounded image.now }
-    requires marks_value { marks.old ≡ replicate 4096 0 }
-    ensures { Vlans (image_in image.now) result marks.new }
+// What one pass over 07 leaves for rules 21, 22 and 28: a mark for each VLANID, and how often a mark was set already when its VLANID came.
+#[derive(Drop)]
+pub struct Seen {
+    pub again: usize,
+    pub marks: [u8; VLANIDS],
+}
+
+pub fn vlans_seen(image: &[u32]) -> Seen
+    requires { Bounded image.now }
+    ensures { Vlans (image_in image.now) result.again result.marks }
 {
     let n = count(image, Table::VlanLookup);
-    let mut again: usize = 0;
+    let mut seen = Seen {
+        again: 0,
+        marks: [0u8; VLANIDS],
+    };
     let mut i: usize = 0;
     while i < n {
         let v = fields::vlan::vlanid(image, i) as usize;
-        again += wide(marks[v]);
-        marks[v] = 1;
+        seen.again += wide(seen.marks[v]);
+        seen.marks[v] = 1;
         i += 1;
     }
-    again
+    seen
 }
 
 // Rule 22: each of the five ports, whether it takes frames or not, by a mark for each VLANID of 07.
@@ -92,11 +99,11 @@ pub fn sharindx_beyond(image: &[u32]) -> bool
     false
 }
 
-// What the eight PART_SPC add up to, for rules 24 and 27.
-fn spaces(image: &[u32]) -> u64
+// Rule 24.
+pub fn space_over(image: &[u32]) -> bool
     requires bounded { Bounded image.now }
     requires image_value { count_of (image_in image.now) ForwardingParameters ≡ 1 }
-    ensures { result ≡ spaces (image_in image.now) }
+    ensures { result ≡ space_over (image_in image.now) }
 {
     let mut sum: u64 = 0;
     let mut j: usize = 0;
@@ -104,28 +111,7 @@ fn spaces(image: &[u32]) -> u64
         sum += fields::parameters::part_spc(image, j);
         j += 1;
     }
-    sum
-}
-
-// Rule 24.
-pub fn space_over(image: &[u32]) -> bool
-    requires bounded { Bounded image.now }
-    requires image_value { count_of (image_in image.now) ForwardingParameters ≡ 1 }
-    ensures { result ≡ space_over (image_in image.now) }
-{
-    929 < spaces(image)
-}
-
-// Rule 27: the loopback port takes memory where 12 has an entry, whatever its ING_PORT.
-pub fn retag_space_over(image: &[u32]) -> bool
-    requires bounded { Bounded image.now }
-    requires image_value { count_of (image_in image.now) ForwardingParameters ≡ 1 }
-    ensures { result ≡ retag_space_over (image_in image.now) }
-{
-    if 0 < count(image, Table::Retagging) {
-        return 910 < spaces(image);
-    }
-    false
+    929 < sum
 }
 
 // Entry i of 12 has a VLAN without a mark: its VLAN_ING or its VLAN_EGR.

@@ -1,6 +1,6 @@
 -- K's stream loads: it passes every framing rule with K's tables, and every loading rule. The first is computed from the definitions of document 01's
 -- rules over all 199 words; the second follows from K's fields, so that no test reads through the whole image.
-use Rattle.std.specs.Prelude.{◌≡◌, refl, false, cond, List, ℕ, eqb, ltb}
+use Rattle.std.specs.Prelude.{◌≡◌, refl, false, cond, List, ℕ, eqb}
 use Rattle.std.proofs.Common.{sym, ◌∙◌, subst, lit<, lt-ltb}
 use Rattle.std.proofs.Math.Path.{ap}
 use Rattle.laws.specs.Scan.{some_below, first, total, twice}
@@ -10,7 +10,7 @@ use Rattle.image.specs.Layout.{image_of}
 use Rattle.image.specs.Blocks.{block_of}
 use Rattle.fields.specs.Fields.{vlanid, index}
 use Rattle.image.specs.Loaded.{incomplete}
-use Rattle.broken.specs.Broken.{vlan_twice, vlan_missing, sharindx_beyond, spaces, space_over, retag_space_over, index_twice, stray, retag_stray}
+use Rattle.broken.specs.Broken.{vlan_twice, vlan_missing, sharindx_beyond, space_over, index_twice, stray, retag_stray}
 use Rattle.rules.specs.Rules.{ruled}
 use Rattle.stream.specs.Paper.{Outcome, passed, blocks, framed, refused_with, outcome_of, loaded}
 use Rattle.config_k.specs.Stream.{K}
@@ -64,9 +64,6 @@ module _ (image : List ℕ) (k : IsK image) where
         k.spaces.others 6 (lit< tt),
       )
 
-  not27 : retag_space_over image ≡ false
-  not27 = ap (λ (n : ℕ). cond (ltb 0 n) (ltb 910 (spaces image)) false) k.counts.retags
-
   not25 : index_twice image ≡ false
   unfolding twice some_below
   not25 = ap (λ (n : ℕ). twice n (λ i. index image i)) k.counts.addresses
@@ -77,7 +74,7 @@ module _ (image : List ℕ) (k : IsK image) where
 
   keeps : ruled image ≡ 0
   unfolding ruled
-  keeps = rw (not20, not21, not22, not23, not24, not27, not25, not28)
+  keeps = rw (not20, not21, not22, not23, not24, not25, not28)
 
 pub k_ruled : ruled (image_of k_tables) ≡ 0
 k_ruled = keeps (image_of k_tables) k_fields

@@ -45,16 +45,6 @@ first_at (c ∷ cs) n b a = go (first_at cs n) (eqb c.number n) refl b a
     go rest true e b a = inl (a, sym (eqb-true _ n e))
     go rest false e b a = inr (b.0, rest b.1 a)
 
--- and where n is the first, no clause before it holds
-pub before_first : (cs : List Clause) (n : ℕ) → First cs n → NoneBefore n cs
-before_first [] n f = tt
-before_first (c ∷ cs) n (inl f) = subst (λ (t : Bool). cond t (Unit {0}) ((c.holds → ⊥) × NoneBefore n cs)) (sym (eq-eqb _ n (sym f.1))) tt
-before_first (c ∷ cs) n (inr f) = go (before_first cs n f.1) (eqb c.number n)
-  where
-    go : NoneBefore n cs → (t : Bool) → cond t (Unit {0}) ((c.holds → ⊥) × NoneBefore n cs)
-    go rest true = tt
-    go rest false = (f.0, rest)
-
 -- where each clause has a test, whether any before number n holds has one
 pub none_before : (cs : List Clause) (ts : List Bool) (n : ℕ) → Decided cs ts → Decides (not (before n cs ts)) (NoneBefore n cs)
 none_before [] ts n d = (λ e. tt, λ u. refl)

@@ -37,23 +37,15 @@ Missing image = Some 5 (λ port. NoVlan image (port_vlanid image port))
 abbrev pub Beyond : List ℕ → Type 0
 Beyond image = Some (count_of image Policing) (λ i. count_of image Policing ≤ sharindx image i)
 
--- what "the eight PART_SPC add up to"
-abbrev pub partition_sum : List ℕ → ℕ
-partition_sum image = total 8 (λ j. part_spc image j)
-
 -- 24: "the eight PART_SPC add up to more than 929"
 abbrev pub Over : List ℕ → Type 0
-Over image = 929 < partition_sum image
-
--- 27: "With at least one retagging entry, the eight partitions may add up to 910 at most"; what is above 929 has broken 24
-abbrev pub RetagOver : List ℕ → Type 0
-RetagOver image = (0 < count_of image Retagging) × (910 < partition_sum image)
+Over image = 929 < total 8 (λ j. part_spc image j)
 
 -- 28: "when an entry's ingress or egress VLAN has no entry in 07"
 abbrev pub Stray : List ℕ → Type 0
 Stray image = Some (count_of image Retagging) (λ i. NoVlan image (vlan_ing image i) ⊎ NoVlan image (vlan_egr image i))
 
--- "Loading rules, run once the end block has passed, in this order", and document 02's "27, directly after 24" and "28, after 25"
+-- "Loading rules, run once the end block has passed, in this order", and document 02's "28, after 25"
 abbrev pub rules_page : List ℕ → List Clause
 rules_page image =
     clause 20 (Incomplete image)
@@ -61,7 +53,6 @@ rules_page image =
     ∷ clause 22 (Missing image)
     ∷ clause 23 (Beyond image)
     ∷ clause 24 (Over image)
-    ∷ clause 27 (RetagOver image)
     ∷ clause 25 (Twice (count_of image AddressLookup) (λ i. index image i))
     ∷ clause 28 (Stray image)
     ∷ []

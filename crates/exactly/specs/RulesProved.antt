@@ -1,17 +1,17 @@
 -- Each rule's test decides its words, and the rules' answer is the first of the page.
 use Rattle.std.specs.Prelude.{◌≡◌, List, [], ◌∷◌, ℕ}
-use Rattle.laws.specs.Scan.{twice}
+use Rattle.laws.specs.Scan.{total, twice}
 use Rattle.image.specs.Layout.{count_of}
 use Rattle.image.specs.Loaded.{incomplete}
 use Rattle.image.specs.declared.tables.Table.TheVariants.{Policing, VlanLookup, Retagging}
-use Rattle.fields.specs.Fields.{vlanid, port_vlanid, sharindx, vlan_ing, vlan_egr}
-use Rattle.broken.specs.Broken.{no_vlan, vlan_twice, vlan_missing, sharindx_beyond, space_over, retag_space_over, index_twice, retag_stray}
+use Rattle.fields.specs.Fields.{vlanid, port_vlanid, sharindx, part_spc, vlan_ing, vlan_egr}
+use Rattle.broken.specs.Broken.{no_vlan, vlan_twice, vlan_missing, sharindx_beyond, space_over, index_twice, retag_stray}
 use Rattle.rules.specs.Rules.{ruled}
 use Rattle.exactly.specs.First.{First}
 use Rattle.exactly.specs.Decides.{Decides}
 use Rattle.exactly.specs.FirstLaws.{first_is, same_first}
-use Rattle.exactly.specs.DecidesLaws.{also, by_lt, by_eq, by_or, by_and, by_not, by_not_lt, by_some, by_no_first}
-use Rattle.exactly.specs.Rules.{Incomplete, Twice, NoVlan, Missing, Beyond, partition_sum, Over, RetagOver, Stray, rules_page}
+use Rattle.exactly.specs.DecidesLaws.{also, by_lt, by_eq, by_or, by_not, by_not_lt, by_some, by_no_first}
+use Rattle.exactly.specs.Rules.{Incomplete, Twice, NoVlan, Missing, Beyond, Over, Stray, rules_page}
 
 -- 20's test, which 30 of a frame shares
 pub is_incomplete : (image : List ℕ) → Decides (incomplete image) (Incomplete image)
@@ -37,10 +37,7 @@ is_beyond : (image : List ℕ) → Decides (sharindx_beyond image) (Beyond image
 is_beyond image = by_some (count_of image Policing) _ _ (λ i. by_not_lt (sharindx image i) (count_of image Policing))
 
 is_over : (image : List ℕ) → Decides (space_over image) (Over image)
-is_over image = by_lt 929 (partition_sum image)
-
-is_retag_over : (image : List ℕ) → Decides (retag_space_over image) (RetagOver image)
-is_retag_over image = by_and _ _ (by_lt 0 (count_of image Retagging)) (by_lt 910 (partition_sum image))
+is_over image = by_lt 929 (total 8 (λ j. part_spc image j))
 
 is_stray : (image : List ℕ) → Decides (retag_stray image) (Stray image)
 is_stray image = by_some (count_of image Retagging) _ _ (λ i. by_or _ _ (is_no_vlan image (vlan_ing image i)) (is_no_vlan image (vlan_egr image i)))
@@ -49,8 +46,8 @@ is_stray image = by_some (count_of image Retagging) _ _ (λ i. by_or _ _ (is_no_
 pub ruled_first : (image : List ℕ) → First (rules_page image) (ruled image)
 unfolding ruled
 ruled_first image =
-    first_is (rules_page image) (incomplete image ∷ vlan_twice image ∷ vlan_missing image ∷ sharindx_beyond image ∷ space_over image ∷ retag_space_over image ∷ index_twice image ∷ retag_stray image ∷ [])
-    (also (is_incomplete image) (also (is_twice _ _) (also (is_missing image) (also (is_beyond image) (also (is_over image) (also (is_retag_over image) (also (is_twice _ _) (also (is_stray image) tt))))))))
+    first_is (rules_page image) (incomplete image ∷ vlan_twice image ∷ vlan_missing image ∷ sharindx_beyond image ∷ space_over image ∷ index_twice image ∷ retag_stray image ∷ [])
+    (also (is_incomplete image) (also (is_twice _ _) (also (is_missing image) (also (is_beyond image) (also (is_over image) (also (is_twice _ _) (also (is_stray image) tt)))))))
 
 -- and the page gives no other
 pub ruled_by : (image : List ℕ) (n : ℕ) → First (rules_page image) n → ruled image ≡ n

@@ -1,10 +1,10 @@
--- The proved table of document 01: its eleven rows as one statement, on an image's entries, on streams, on the rules' answer and on verdicts. Beside it
--- document 02's sentence on the same sums with retagging.
-use Rattle.std.specs.Prelude.{◌≡◌, List, [], ◌∷◌, ℕ, ◌-◌, ◌≤◌, length}
+-- The proved table of document 01: its eleven rows as one statement, on an image's entries, on streams, on the rules' answer and on verdicts.
+use Rattle.std.specs.Prelude.{◌≡◌, List, [], ◌∷◌, ℕ, ◌-◌, length}
+use Rattle.laws.specs.Scan.{total}
 use Rattle.crc.specs.Crc.{checksum}
-use Rattle.image.specs.Layout.{image_in, count_of, entry_of}
-use Rattle.image.specs.declared.tables.Table.TheVariants.{VlanLookup, Retagging}
-use Rattle.fields.specs.Fields.{vmemb_port, vlan_bc, tag_port, vlanid, smax, rate}
+use Rattle.image.specs.Layout.{image_in, entry_of}
+use Rattle.image.specs.declared.tables.Table.TheVariants.{VlanLookup}
+use Rattle.fields.specs.Fields.{vmemb_port, vlan_bc, tag_port, vlanid, smax, rate, part_spc}
 use Rattle.fields.specs.Packed.{Packed}
 use Rattle.stream.specs.Header.{device, id_of, length_of}
 use Rattle.stream.specs.Paper.{refused, passed, none, framed}
@@ -16,7 +16,7 @@ use Rattle.settle.specs.declared.Verdict.TheVariants.{Drop}
 use Rattle.judge.specs.declared.Judgement.{Judgement}
 use Rattle.judge.specs.Judge.{Judges}
 use Rattle.exactly.specs.First.{NoneBefore}
-use Rattle.exactly.specs.Rules.{partition_sum, rules_page}
+use Rattle.exactly.specs.Rules.{rules_page}
 use Rattle.exactly.specs.Steps.{meter_for, frame_page}
 
 -- entry i of 07 holds these four fields and no other bit
@@ -61,9 +61,9 @@ pub record ProvedTable : Type 0 where
   pub e : (first second : ℕ) (rest : List ℕ) → id_of first ≡ 0x07 → length_of second ≡ 8194
       → framed (device ∷ first ∷ second ∷ checksum (first ∷ second ∷ []) ∷ rest) ≡ refused 6
   -- (f) partition sum 929 passes
-  pub f : (image : List ℕ) → partition_sum image ≡ 929 → ruled image ≡ 24 → ⊥
+  pub f : (image : List ℕ) → total 8 (λ j. part_spc image j) ≡ 929 → ruled image ≡ 24 → ⊥
   -- (g) 930: 24
-  pub g : (image : List ℕ) → NoneBefore 24 (rules_page image) → partition_sum image ≡ 930 → ruled image ≡ 24
+  pub g : (image : List ℕ) → NoneBefore 24 (rules_page image) → total 8 (λ j. part_spc image j) ≡ 930 → ruled image ≡ 24
   -- (h) credit 0, SMAX 64, RATE 64, L 64: short after 511 µs
   pub h : (buffer row : List ℕ) (port time : ℕ) (frame places : List ℕ) (r : Judgement) (left told : List ℕ) → Reaches buffer row port time frame places 9 r left told
       → Meter (image_in buffer) row port time frame 64 64 0 511 64
@@ -87,19 +87,3 @@ pub record ProvedTable : Type 0 where
       → octets_of frame ≡ 64
       → r.verdict ≡ Drop 1
       → ⊥
-
--- "27, directly after 24, for sums of 911 to 929 with retagging loaded": its pair, beside (f) and (g), and the sentence whole
-pub record RetaggingSpace : Type 0 where
-  -- with one entry of 12, partition sum 910 passes
-  pub at_910 : (image : List ℕ) → count_of image Retagging ≡ 1 → partition_sum image ≡ 910 → (ruled image ≡ 24 → ⊥) × (ruled image ≡ 27 → ⊥)
-  -- 911: 27
-  pub at_911 : (image : List ℕ) → NoneBefore 24 (rules_page image) → count_of image Retagging ≡ 1 → partition_sum image ≡ 911 → ruled image ≡ 27
-  -- "for sums of 911 to 929 with retagging loaded"
-  pub for_sums : (image : List ℕ) → NoneBefore 24 (rules_page image) → 1 ≤ count_of image Retagging → 911 ≤ partition_sum image
-      → partition_sum image ≤ 929
-      → ruled image ≡ 27
-  -- and for no other
-  pub for_no_other : (image : List ℕ) → ruled image ≡ 27
-      → (1 ≤ count_of image Retagging) × (911 ≤ partition_sum image) × (partition_sum image ≤ 929)
-  -- "without any, 929 stays"
-  pub without_any : (image : List ℕ) → count_of image Retagging ≡ 0 → partition_sum image ≡ 929 → (ruled image ≡ 24 → ⊥) × (ruled image ≡ 27 → ⊥)

@@ -1,15 +1,17 @@
--- The proved table's one statement, and rule 27's beside it, proved from the definitions and from the pages.
+-- The proved table's one statement, proved from the definitions and from the pages.
 use Rattle.std.specs.Prelude.{◌≡◌, refl, true, false, cond, List, [], ◌∷◌, ◌++◌, ℕ, suc, ◌%◌, ◌<◌, ◌≤◌, ltb, length}
-use Rattle.std.proofs.Common.{sym, ◌∙◌, ap, subst, true≢false, append-nil, zero-le, lt_irrefl, le_refl, lt_of_lt_of_le, lt_of_not-le, le_of_suc-le-suc, lit<, lit≤, ltb-true, ltb-false, lt-ltb, eq-eqb, ne_eqb}
+use Rattle.std.proofs.Common.{sym, ◌∙◌, ap, subst, true≢false, append-nil, zero-le, lt_irrefl, le_refl, lit<, ltb-true, lt-ltb, eq-eqb, ne_eqb}
 use Rattle.std.proofs.lemmas.Bool.{eqb-false}
+use Rattle.laws.specs.Scan.{total}
 use Rattle.crc.specs.Crc.{checksum}
 use Rattle.image.specs.Rows.{row_of, room}
 use Rattle.image.specs.Blocks.{block_of}
-use Rattle.image.specs.Layout.{image_in, count_of, entry_of}
+use Rattle.image.specs.Layout.{image_in, entry_of}
 use Rattle.image.specs.declared.tables.Table.{Table}
 use Rattle.image.specs.declared.tables.Table.TheVariants.{AddressLookup, Policing, VlanLookup, Forwarding, MacConfiguration, LookupParameters, ForwardingParameters, GeneralParameters, XmiiModeParameters, Retagging}
 use Rattle.image.specs.declared.tables.Block.{Block}
 use Rattle.image.specs.declared.tables.Block.TheVariants.{Carried}
+use Rattle.fields.specs.Fields.{part_spc}
 use Rattle.fields.specs.Packed.{Packed}
 use Rattle.fields.specs.Proved.{row_a, row_b}
 use Rattle.stream.specs.declared.Header.TheVariants.{Wrong}
@@ -23,13 +25,13 @@ use Rattle.spend.specs.Proved.{row_h, row_i, row_j}
 use Rattle.frame.specs.Bytes.{octets_of}
 use Rattle.settle.specs.declared.Verdict.TheVariants.{Drop}
 use Rattle.judge.specs.declared.Judgement.{Judgement}
-use Rattle.exactly.specs.First.{First, At, NoneBefore}
-use Rattle.exactly.specs.FirstLaws.{first_at, before_first, at_first}
-use Rattle.exactly.specs.Rules.{partition_sum, Over, RetagOver, rules_page}
+use Rattle.exactly.specs.First.{First, At}
+use Rattle.exactly.specs.FirstLaws.{first_at, at_first}
+use Rattle.exactly.specs.Rules.{Over, rules_page}
 use Rattle.exactly.specs.RulesProved.{ruled_first, ruled_by}
 use Rattle.exactly.specs.Steps.{credit_for, frame_page, verdict_by}
 use Rattle.exactly.specs.StepsProved.{first_that_applies}
-use Rattle.exactly.specs.Table.{VlanEntry, Meter, Reaches, VlanBlock, ProvedTable, RetaggingSpace}
+use Rattle.exactly.specs.Table.{VlanEntry, Meter, Reaches, VlanBlock, ProvedTable}
 
 -- ---- (a) and (b)
 
@@ -104,29 +106,10 @@ fits p e0 e1 b end =
 
 -- ---- (f) and (g)
 
--- the rules' answer is n: it is the first of the page
-first_of : (image : List ℕ) (n : ℕ) → ruled image ≡ n → First (rules_page image) n
-first_of image n e = subst (First (rules_page image)) e (ruled_first image)
-
--- a sum that 24 does not refuse
-not_over : (image : List ℕ) (sum : ℕ) → ltb 929 sum ≡ false → partition_sum image ≡ sum → ruled image ≡ 24 → ⊥
-not_over image sum within e q =
-    let over : Over image = at_first (rules_page image) 24 refl (eqb-false 24 0 refl) (first_of image 24 q) in
-    lt_irrefl 929 (lt_of_lt_of_le (subst (λ (n : ℕ). 929 < n) e over) (ltb-false 929 sum within))
-
--- ---- rule 27
-
-module _ (image : List ℕ) where
-  told_27 : ruled image ≡ 27 → (1 ≤ count_of image Retagging) × (911 ≤ partition_sum image) × (partition_sum image ≤ 929)
-  told_27 e =
-      let f = first_of image 27 e in
-      let over : RetagOver image = at_first (rules_page image) 27 refl (eqb-false 27 0 refl) f in
-      (over.0, over.1, le_of_suc-le-suc (lt_of_not-le (before_first (rules_page image) 27 f).1.1.1.1.0))
-
-  tells_27 : NoneBefore 24 (rules_page image) → 1 ≤ count_of image Retagging → 911 ≤ partition_sum image → partition_sum image ≤ 929 → ruled image ≡ 27
-  tells_27 (not20, (not21, (not22, (not23, _)))) one above within =
-      let not24 : Over image → ⊥ = λ over. lt_irrefl 929 (lt_of_lt_of_le over within) in
-      ruled_by image 27 (first_at (rules_page image) 27 (not20, (not21, (not22, (not23, (not24, tt))))) (one, above))
+sum_passes : (image : List ℕ) → total 8 (λ j. part_spc image j) ≡ 929 → ruled image ≡ 24 → ⊥
+sum_passes image sum e =
+    let over : Over image = at_first (rules_page image) 24 refl (eqb-false 24 0 refl) (subst (First (rules_page image)) e (ruled_first image)) in
+    lt_irrefl 929 (subst (λ (n : ℕ). 929 < n) sum over)
 
 -- ---- (h) to (k)
 module _ (buffer row : List ℕ) (port time : ℕ) (frame places : List ℕ) (r : Judgement) (left told : List ℕ) where
@@ -176,24 +159,11 @@ proved_table =
       c = λ first second rest id long. wrong_first first second 3 5 rest id long (eqb-false 3 0 refl) five;
       d = fits;
       e = λ first second rest id long. wrong_first first second 8194 6 rest id long (eqb-false 8194 0 refl) six;
-      f = λ image. not_over image 929 refl;
+      f = sum_passes;
       g = λ image past sum. ruled_by image 24 (first_at (rules_page image) 24 past (subst (λ (n : ℕ). 929 < n) (sym sum) (lit< tt)));
       h = λ buffer row port time frame places r left told t m. is_short buffer row port time frame places r left told 64 64 0 511 64 t m row_h;
       i = λ buffer row port time frame places r left told t m. not_short buffer row port time frame places r left told 64 64 0 512 64 t m row_i;
       j = λ buffer row port time frame places r left told gain old elapsed t m. is_short buffer row port time frame places r left told 63 gain old elapsed 64 t m (row_j gain old elapsed);
       k = few;
       k_on = enough;
-    }
-
--- "for sums of 911 to 929 with retagging loaded"
-pub retagging_space : RetaggingSpace
-retagging_space =
-    record {
-      at_910 = λ image one sum. (not_over image 910 refl sum, λ e. lt_irrefl 910 (subst (λ (n : ℕ). 911 ≤ n) sum (told_27 image e).1));
-      at_911 =
-          λ image past one sum. tells_27 image past (subst (λ (n : ℕ). 1 ≤ n) (sym one) (lit< tt)) (subst (λ (n : ℕ). 911 ≤ n) (sym sum) (le_refl 911))
-          (subst (λ (n : ℕ). n ≤ 929) (sym sum) (lit≤ tt));
-      for_sums = tells_27;
-      for_no_other = told_27;
-      without_any = λ image none sum. (not_over image 929 refl sum, λ e. lt_irrefl 0 (subst (λ (n : ℕ). 1 ≤ n) none (told_27 image e).0));
     }

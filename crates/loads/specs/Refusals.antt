@@ -16,7 +16,7 @@ RefusedWith ns (Refused n) = OneOf n ns
 
 -- "Refusals 1 to 8, 10 and of a loading rule leave the image zero"
 abbrev pub leaves_zero : ℕ → Bool
-leaves_zero n = cond (ltb n 9) (ltb 0 n) (cond (eqb n 10) true (cond (ltb n 20) false (cond (ltb n 26) true (cond (eqb n 27) true (eqb n 28)))))
+leaves_zero n = cond (ltb n 9) (ltb 0 n) (cond (eqb n 10) true (cond (ltb n 20) false (cond (ltb n 26) true (eqb n 28))))
 
 -- "9, 30, 31 and 32 leave everything as found"
 abbrev pub leave_as_found : List ℕ

@@ -2,7 +2,7 @@
 use Rattle.std.specs.Prelude.{Bool, false, cond, List, [], ◌∷◌, ℕ, length, get_or}
 use Rattle.laws.specs.Scan.{some_below}
 use Rattle.image.specs.Loaded.{incomplete}
-use Rattle.broken.specs.Broken.{vlan_twice, vlan_missing, sharindx_beyond, space_over, retag_space_over, index_twice, retag_stray}
+use Rattle.broken.specs.Broken.{vlan_twice, vlan_missing, sharindx_beyond, space_over, index_twice, retag_stray}
 
 -- a rule: its number, and whether an image breaks it
 pub record Rule : Type 0 where
@@ -17,7 +17,6 @@ rules =
     ∷ record { number = 22; broken = vlan_missing }
     ∷ record { number = 23; broken = sharindx_beyond }
     ∷ record { number = 24; broken = space_over }
-    ∷ record { number = 27; broken = retag_space_over }
     ∷ record { number = 25; broken = index_twice }
     ∷ record { number = 28; broken = retag_stray }
     ∷ []

@@ -23,7 +23,7 @@ const MARK: usize = 11_504;
 
 type Case = fn(&mut Rng, &mut Tally, &str);
 
-const CASES: [(&str, Case); 11] = [
+const CASES: [(&str, Case); 10] = [
     ("each_number_of_replicas", each_number_of_replicas),
     ("entries_alike_and_in_table_order", entries_alike_and_in_table_order),
     ("a_refused_frame_has_none", a_refused_frame_has_none),
@@ -34,7 +34,6 @@ const CASES: [(&str, Case); 11] = [
     ("the_count_of_12", the_count_of_12),
     ("vlans_of_an_edited_image", vlans_of_an_edited_image),
     ("a_stream_with_12", a_stream_with_12),
-    ("units_of_an_edited_image", units_of_an_edited_image),
 ];
 
 pub fn cases(rng: &mut Rng, tally: &mut Tally) {
@@ -330,34 +329,4 @@ fn a_stream_with_12(rng: &mut Rng, tally: &mut Tally, name: &str) {
             tally.result(same_words(name, &image[ENTRY..ENTRY + 6], &words));
         }
     }
-}
-
-/// More units than 27 and 24 let load, with one entry and with 32; and the count of 12 put to 1 beside 929. It is judged all the same.
-fn units_of_an_edited_image(rng: &mut Rng, tally: &mut Tally, name: &str) {
-    let with_other = |entries: &[Entry], units| {
-        of_lists(&with(retags(entries), &[(forwarding_parameters::part_spc(1), 0, units)]))
-    };
-    // Beside the three of partition 0: sums of 910, 911, 929, 930 and 1,026.
-    for units in [907, 908, 926, 927, 1023] {
-        for entries in [vec![TO_2], vec![TO_2; 32]] {
-            let image = with_other(&entries, units);
-            let mut expected = vec![sent(1), sent(2), sent(2)];
-            expected.resize(33, dropped(11));
-            expected.truncate(1 + entries.len());
-            let Some(ledger) = fresh(rng, tally, name, &image) else {
-                return tally.result(Err(format!("{name}: not loaded")));
-            };
-            tally.result(same(name, ledger.units, [3, units, 0, 0, 0, 0, 0, 0]));
-            let after = held(tally, name, &image, ledger, (0, 10, &broadcast()), &expected);
-            let after = release(tally, name, &image, after, 0);
-            tally.result(same(name, after.units[0], if entries.len() == 1 { 2 } else { 1 }));
-            show(tally, name, &image, after, 0);
-        }
-    }
-    let mut image = with_other(&[], 926);
-    held_fresh(rng, tally, name, &image, (0, 10, &broadcast()), &[sent(1)]);
-    image[COUNT] = 1;
-    held_fresh(rng, tally, name, &image, (0, 10, &broadcast()), &[sent(1)]);
-    image[ENTRY..ENTRY + 2].copy_from_slice(&[0x8000_0000, 0x0040_0400]);
-    held_fresh(rng, tally, name, &image, (0, 10, &broadcast()), &[sent(1), sent(2)]);
 }

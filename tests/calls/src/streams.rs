@@ -1,13 +1,11 @@
 //! What a stream is put through: whole loads, any cutting, refused writes in between, edits mid-load.
 
-use cases::damage::{entries_in, units_in};
 use cases::edit::edited_image;
 use cases::generate::random_cutting;
 use cases::rng::Rng;
-use cases::rules::RULES;
 use reference::image::{count_place, IMAGE_WORDS};
 use reference::stream::words_of;
-use reference::tables::{Table, ROWS};
+use reference::tables::ROWS;
 
 use crate::pair::{load_bytes, load_words, Pair};
 use crate::states::{edited, fresh_among_any, stateless, FRESH, TOLD};
@@ -25,11 +23,6 @@ pub fn every_way(rng: &mut Rng, tally: &mut Tally, name: &str, bytes: &[u8]) -> 
     let buffer = dirty(rng);
     let words = words_of(bytes);
     let (answer, whole) = load_words(tally, name, &buffer, &words);
-    // Past framing and rule 20 there is one entry of 0E.
-    let has_0e = answer == 0 || RULES[1..].contains(&answer);
-    if has_0e && !entries_in(&words, Table::Retagging).is_empty() {
-        tally.sum_with_12(units_in(&words));
-    }
     // The bytes stand at any address.
     let mut placed = vec![0; rng.place(4)];
     let start = placed.len();

@@ -60,20 +60,16 @@ const DROPS: &[u32] = &[1, 2, 3, 4, 5, 6, 7, 8, 9, 10, 11];
 const REPLICA_DROPS: &[u32] = &[4, 7, 8, 9, 10, 11];
 /// How many replicas a frame has; "refused" is one that has none although 12 has entries.
 const REPLICAS: &[&str] = &["none", "one", "several", "all 32", "refused"];
-/// Sums of PART_SPC in streams with entries of 12, at each end of what rules 27 and 24 refuse.
-const SUMS: &[&str] = &["910 units", "911 units", "929 units", "930 units"];
 const RELEASE: &[&[u32]] = &[&[30, 31, 36, 37, 39]];
 const LIST: &[&[u32]] = &[&[50, 51, 52, 53, 54]];
 
-/// Every entry, with every answer that documents 01 and 02 let it give; and what the judged frames' replicas and the loaded streams' sums
-/// came to.
-const ENTRIES: [Due; 12] = [
+/// Every entry, with every answer that documents 01 and 02 let it give; and what the judged frames' replicas came to.
+const ENTRIES: [Due; 11] = [
     Due { entry: "fresh_load", refusals: &[], drops: &[], told: &["done"] },
     // An answer that a write repeats is not counted as given again.
     Due { entry: "write", refusals: WRITE, drops: &[], told: &["loaded", "more", "repeated"] },
     Due { entry: "load_words", refusals: WORDS, drops: &[], told: &["loaded"] },
     Due { entry: "load_bytes", refusals: BYTES, drops: &[], told: &["loaded"] },
-    Due { entry: "sum with 12", refusals: &[], drops: &[], told: SUMS },
     Due { entry: "fresh_ledger", refusals: &[&[30, 31]], drops: &[], told: &["done"] },
     Due { entry: "judge", refusals: FRAME, drops: DROPS, told: &["sent"] },
     Due { entry: "replicas", refusals: &[], drops: &[], told: REPLICAS },
@@ -122,13 +118,6 @@ impl Tally {
     /// What a call has shown beside its answer.
     pub fn seen(&mut self, what: &'static str, answer: Answer) {
         *self.answers.entry((answer, what)).or_default() += 1;
-    }
-
-    /// The sum of PART_SPC in a stream with entries of 12 whose framing passed.
-    pub fn sum_with_12(&mut self, sum: u64) {
-        if let Some(told) = SUMS.iter().find(|told| **told == format!("{sum} units")) {
-            self.seen("sum with 12", Answer::Told(told));
-        }
     }
 
     pub fn result(&mut self, result: Result<(), String>) {

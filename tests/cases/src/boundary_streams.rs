@@ -3,13 +3,13 @@
 use reference::crc;
 use reference::k;
 use reference::stream::{bytes_of, Block, Lists, DEVICE_ID};
-use reference::tables::{address_lookup, mac_configuration, policing};
+use reference::tables::{address_lookup, forwarding_parameters, mac_configuration, policing};
 use reference::tables::{Table, IDS_OF_TABLE_2, ROWS};
 
 use crate::build::{open, refusal_of_id, with, with_retagging, with_vlan, A, B};
 use crate::case::Case;
 use crate::damage::{blocks_in, flip, rearranged};
-use crate::generate::{put_units, random_config, Profile};
+use crate::generate::{random_config, Profile};
 use crate::rng::Rng;
 use crate::rules::NEEDED;
 
@@ -189,15 +189,8 @@ fn later_rules(rng: &mut Rng) -> Vec<Case> {
     let at = with(few, &[(policing::SHARINDX, number, entries)]);
     cases.extend(rule_pair(rng, 23, "23 SHARINDX", &below, &at));
     // 24: 929 units and 930.
-    let (fits, above) = (units_summing(rng, 929, 0), units_summing(rng, 930, 0));
+    let (fits, above) = (units_summing(rng, 929), units_summing(rng, 930));
     cases.extend(rule_pair(rng, 24, "24 sum of PART_SPC", &fits, &above));
-    // 27: 910 units and 911 with entries of 12; then the same units without an entry and with some.
-    let entries = rng.between(1, 32);
-    let (fits, above) = (units_summing(rng, 910, entries), units_summing(rng, 911, entries));
-    cases.extend(rule_pair(rng, 27, "27 sum of PART_SPC with 12", &fits, &above));
-    let sum = rng.between(911, 929);
-    let (without, with_12) = (units_summing(rng, sum, 0), units_summing(rng, sum, entries));
-    cases.extend(rule_pair(rng, 27, "27 entry of 12", &without, &with_12));
     // 25: two INDEXes one bit apart, and equal.
     let index = rng.below(1024);
     let other = index ^ (1 << rng.below(10));
@@ -216,11 +209,18 @@ fn later_rules(rng: &mut Rng) -> Vec<Case> {
     cases
 }
 
-/// K with units that add up to this and so many entries of 12, of any ports.
-fn units_summing(rng: &mut Rng, sum: u64, entries: u64) -> Lists {
+/// K with units that add up to this, spread over the eight at random.
+fn units_summing(rng: &mut Rng, sum: u64) -> Lists {
     let mut lists = k::lists();
-    put_units(rng, &mut lists, sum);
-    (0..entries).fold(lists, |lists, _| with_retagging(lists, rng.below(32), 1, 1))
+    let mut left = sum;
+    let mut partitions: Vec<usize> = (0..8).collect();
+    rng.shuffle(&mut partitions);
+    for (turn, &partition) in partitions.iter().enumerate() {
+        let units = if turn == 7 { left } else { rng.below(left + 1) };
+        lists.put(forwarding_parameters::part_spc(partition), 0, units);
+        left -= units;
+    }
+    lists
 }
 
 fn two_indexes(first: u64, second: u64) -> Lists {

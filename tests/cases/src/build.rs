@@ -148,16 +148,6 @@ pub fn with_vlan(lists: Lists, vlan: u64, members: u64, broadcast: u64, tags: u6
     lists
 }
 
-/// Units that add up to this, in eight parts that differ by one at most.
-pub fn with_units(lists: Lists, sum: u64) -> Lists {
-    let mut lists = lists;
-    for partition in 0..8 {
-        let units = (sum + partition as u64) / 8;
-        lists.put(forwarding_parameters::part_spc(partition), 0, units);
-    }
-    lists
-}
-
 /// One more retagging entry: ports, the frame's VLAN, the replica's.
 pub fn with_retagging(lists: Lists, ing_port: u64, vlan_ing: u64, vlan_egr: u64) -> Lists {
     let mut lists = lists;

@@ -1,7 +1,6 @@
 //! A case for the program: a stream, a list, and what the paper says comes out.
 
 use reference::k;
-use reference::load::LoadAnswer;
 use reference::program::output_for;
 use reference::stream::{bytes_of, plain_stream, Lists};
 
@@ -78,15 +77,6 @@ impl Case {
         self.expecting(Expect::Refused(number))
     }
 
-    /// The stream's answer by its number; 0 is loaded.
-    pub fn told(self, number: u32) -> Case {
-        if number == 0 {
-            self.loaded()
-        } else {
-            self.refused(number)
-        }
-    }
-
     pub(crate) fn lines(self, lines: &[&str]) -> Case {
         let lines = lines.iter().map(|line| line.to_string()).collect();
         self.expecting(Expect::Lines(lines))
@@ -110,15 +100,6 @@ impl Case {
 
     fn at(self, boundary: &str, side: Side) -> Case {
         Case { side: Some((boundary.to_string(), side)), ..self }
-    }
-
-    /// Whether a load's answer to the stream is the one that is expected.
-    pub fn is_answered(&self, answer: LoadAnswer) -> bool {
-        match self.expect {
-            Expect::Anything => true,
-            Expect::Refused(number) => answer == LoadAnswer::Refused(number),
-            Expect::Output(_) | Expect::Loaded | Expect::Lines(_) => answer == LoadAnswer::Loaded,
-        }
     }
 
     /// What the reference prints, or how that differs from what is expected.

@@ -75,13 +75,7 @@ fn finish(tally: Tally) -> bool {
 
 #[cfg(test)]
 mod tests {
-    use reference::image::IMAGE_WORDS;
-    use reference::load::{load_bytes, LoadAnswer};
-    use reference::stream::words_of;
-    use reference::tables::Table;
-
     use super::*;
-    use crate::damage::{entries_in, units_in};
     use crate::rules::refusals;
     use crate::tally::{boundaries, HOW_MANY, REPLICA_DROPS};
 
@@ -113,32 +107,5 @@ mod tests {
         let mut tally = Tally::default();
         (0..200).for_each(|number| tally.run(&generated(&mut rng, number)));
         assert_eq!(tally.missed_replicas(&REPLICA_DROPS[1..]), [""; 0]);
-    }
-
-    /// What is generated mostly loads with entries of 12, now and then with all units that 27 allows;
-    /// without one also with more; and 27 is told of some.
-    #[test]
-    fn generated_streams_are_on_both_sides_of_27() {
-        let mut rng = Rng::new(27);
-        let [mut with_12, mut with_910, mut without_above_910, mut refused] = [0; 4];
-        for number in 0..800 {
-            let stream = generated(&mut rng, number).stream;
-            match load_bytes(&mut vec![0; IMAGE_WORDS], &stream) {
-                LoadAnswer::Refused(27) => refused += 1,
-                LoadAnswer::Loaded => {
-                    let words = words_of(&stream);
-                    let units = units_in(&words);
-                    if entries_in(&words, Table::Retagging).is_empty() {
-                        without_above_910 += usize::from(units > 910);
-                    } else {
-                        with_12 += 1;
-                        with_910 += usize::from(units == 910);
-                    }
-                }
-                _ => {}
-            }
-        }
-        let counts = [with_12, with_910, without_above_910, refused];
-        assert!(with_12 > 400 && counts.iter().all(|&count| count > 0), "{counts:?}");
     }
 }

@@ -1,7 +1,7 @@
 //! Damaged and rearranged streams: bit flips, truncation, other orders, tables split.
 
 use reference::stream::{cut_blocks, plain_blocks, stream_of, Block, End, Lists};
-use reference::tables::{forwarding_parameters, read_field, Table, ROWS};
+use reference::tables::ROWS;
 
 use crate::rng::Rng;
 
@@ -32,24 +32,6 @@ pub fn blocks_in(words: &[u32]) -> Vec<Placed> {
         start += 3 + data + 1;
     }
     blocks
-}
-
-/// The entries of a table in a stream that framing lets by, in their order.
-pub fn entries_in(words: &[u32], table: Table) -> Vec<Vec<u32>> {
-    let mut entries = Vec::new();
-    for block in blocks_in(words) {
-        if words[block.start] >> 24 == u32::from(table.id()) {
-            let data = &words[block.start + 3..block.start + 3 + block.data];
-            entries.extend(data.chunks(table.words()).map(<[u32]>::to_vec));
-        }
-    }
-    entries
-}
-
-/// The sum of the eight PART_SPC in a stream that framing lets by and that has one entry of 0E.
-pub fn units_in(words: &[u32]) -> u64 {
-    let entry = entries_in(words, Table::L2ForwardingParameters).concat();
-    (0..8).map(|partition| read_field(&entry, forwarding_parameters::part_spc(partition))).sum()
 }
 
 /// By hand: which refusal one turned bit of a well-formed stream gives. CRC-32 sees every single

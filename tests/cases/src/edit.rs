@@ -3,15 +3,14 @@
 use reference::image::{count, count_place, start_of, FIRST_COUNT, IMAGE_WORDS, MARK};
 use reference::ledger::{most_credit, most_units, Ledger, LAST_TIME};
 use reference::load::{LoadAnswer, LoadState, Phase};
-use reference::tables::{forwarding_parameters, policing, put_field, retagging, vlan_lookup};
-use reference::tables::{Field, Table, ROWS};
+use reference::tables::{policing, put_field, retagging, vlan_lookup, Field, Table, ROWS};
 
 use crate::rng::Rng;
 
 /// One random edit of an image, also of its length.
 pub fn edited_image(rng: &mut Rng, image: &[u32]) -> Vec<u32> {
     let mut edited = image.to_vec();
-    match rng.below(11) {
+    match rng.below(10) {
         0 => edited[MARK] = rng.pick(&[0, 2, 0x0100_0000, u32::MAX]),
         1 => {
             let row = &ROWS[rng.place(ROWS.len())];
@@ -25,8 +24,7 @@ pub fn edited_image(rng: &mut Rng, image: &[u32]) -> Vec<u32> {
         6 => put_retagging(rng, &mut edited),
         // No VLAN that frames and tables have: what was there is gone.
         7 => put_value(&mut edited, vlan_lookup::VLANID, rng.place(4), 9),
-        8 => put_units(rng, &mut edited),
-        9 => {
+        8 => {
             let place = rng.place(FIRST_COUNT);
             edited[place] = rng.word();
         }
@@ -49,14 +47,6 @@ fn put_shared(rng: &mut Rng, image: &mut [u32]) {
     let number = rng.place(Table::L2Policing.most());
     let shared = rng.below(64);
     put_value(image, policing::SHARINDX, number, shared);
-}
-
-/// PART_SPC of some partition at any of its values: units that 24 or 27 would refuse, or fewer than are
-/// left.
-fn put_units(rng: &mut Rng, image: &mut [u32]) {
-    let any = rng.below(1024);
-    let units = rng.pick(&[0, 910, 911, 929, 930, 1023, any]);
-    put_value(image, forwarding_parameters::part_spc(rng.place(8)), 0, units);
 }
 
 /// Two VLAN entries with one VLANID.
@@ -140,7 +130,7 @@ pub(crate) fn edited_state(rng: &mut Rng, state: &LoadState) -> LoadState {
         5 => edited.header = [rng.word(), rng.word()],
         6 => edited.begun = !edited.begun,
         _ => {
-            let number = rng.pick(&[1, 7, 8, 20, 25, 27, 28]);
+            let number = rng.pick(&[1, 7, 8, 20, 25, 28]);
             edited.answer =
                 rng.pick(&[None, Some(LoadAnswer::Loaded), Some(LoadAnswer::Refused(number))]);
         }

@@ -8,7 +8,7 @@ use reference::tables::{mac_configuration, policing, retagging, vlan_lookup, Tab
 use crate::build::{Frame, List, A, B, BROADCAST, C};
 use crate::damage::{flip, rearranged, reordered};
 use crate::rng::Rng;
-use crate::rules::{units_allowed, MOST_UNITS, MOST_UNITS_WITH_12, NEEDED};
+use crate::rules::NEEDED;
 
 /// What kind of configuration is wanted.
 #[derive(Clone, Copy, PartialEq, Eq, Debug)]
@@ -41,11 +41,14 @@ pub fn random_config(rng: &mut Rng, profile: Profile) -> Lists {
             valid(rng, addresses, policing, vlans)
         }
         Profile::Full => {
-            let mut lists = Lists::default();
+            let [addresses, policing, vlans] =
+                [Table::L2AddressLookup, Table::L2Policing, Table::VlanLookup].map(Table::most);
+            let mut lists = valid(rng, addresses, policing, vlans);
             for row in ROWS {
-                push_any(rng, &mut lists, row.table, row.most);
+                while lists.of(row.table).len() < row.most {
+                    lists.push_zero(row.table);
+                }
             }
-            mend(rng, &mut lists);
             lists
         }
         Profile::Breaks(rule) => {
@@ -88,7 +91,7 @@ fn valid(rng: &mut Rng, addresses: usize, policing_entries: usize, vlans: usize)
     lists
 }
 
-/// Different VLANIDs and INDEXes, VLANs and SHARINDX that exist, no more units than 24 and 27 allow.
+/// Different VLANIDs and INDEXes, VLANs and SHARINDX that exist, 929 units at most.
 fn mend(rng: &mut Rng, lists: &mut Lists) {
     let vlans = different(rng, lists.of(Table::VlanLookup).len(), 4096);
     for (number, &vlan) in vlans.iter().enumerate() {
@@ -111,25 +114,8 @@ fn mend(rng: &mut Rng, lists: &mut Lists) {
         lists.put(policing::SHARINDX, number, shared);
     }
     for partition in 0..8 {
-        // 8 x 113 is 904: with an entry of 12, too.
-        let units = rng.below(114);
+        let units = rng.below(117);
         lists.put(forwarding_parameters::part_spc(partition), 0, units);
-    }
-    if rng.once_in(4) {
-        let all = units_allowed(lists);
-        put_units(rng, lists, all);
-    }
-}
-
-/// Units that add up to this, spread over the eight at random.
-pub(crate) fn put_units(rng: &mut Rng, lists: &mut Lists, sum: u64) {
-    let mut left = sum;
-    let mut partitions: Vec<usize> = (0..8).collect();
-    rng.shuffle(&mut partitions);
-    for (turn, &partition) in partitions.iter().enumerate() {
-        let units = if turn == 7 { left } else { rng.below(left + 1) };
-        lists.put(forwarding_parameters::part_spc(partition), 0, units);
-        left -= units;
     }
 }
 
@@ -183,10 +169,6 @@ fn near(rng: &mut Rng) -> Lists {
     for partition in 0..8 {
         let units = rng.pick(&[0, 1, 2, 3, 50]);
         lists.put(forwarding_parameters::part_spc(partition), 0, units);
-    }
-    if rng.once_in(8) {
-        let all = units_allowed(&lists);
-        put_units(rng, &mut lists, all);
     }
     if rng.once_in(2) {
         let entry = any_entry(rng, Table::L2LookupParameters);
@@ -328,12 +310,6 @@ fn break_rule(rng: &mut Rng, lists: &mut Lists, rule: u32) {
             let units = rng.between(930 - others.min(930), 1023);
             lists.put(forwarding_parameters::part_spc(partition), 0, units);
         }
-        27 => {
-            need_retagging(rng, lists);
-            let any = rng.between(MOST_UNITS_WITH_12 + 1, MOST_UNITS);
-            let sum = rng.pick(&[MOST_UNITS_WITH_12 + 1, MOST_UNITS, any]);
-            put_units(rng, lists, sum);
-        }
         25 => {
             if lists.of(Table::L2AddressLookup).is_empty() {
                 push_any(rng, lists, Table::L2AddressLookup, 1);
@@ -344,22 +320,15 @@ fn break_rule(rng: &mut Rng, lists: &mut Lists, rule: u32) {
             lists.put(address_lookup::INDEX, last, index);
         }
         28 => {
-            need_retagging(rng, lists);
+            if lists.of(Table::Retagging).is_empty() {
+                push_any(rng, lists, Table::Retagging, 1);
+                put_known_vlans(rng, lists, 0);
+            }
             let vlan = absent_vlan(rng, lists);
             let field = rng.pick(&[retagging::VLAN_ING, retagging::VLAN_EGR]);
             lists.put(field, rng.place(lists.of(Table::Retagging).len()), vlan);
         }
         _ => unreachable!("nothing here breaks rule {rule}"),
-    }
-}
-
-/// An entry of 12 where there is none, on VLANs that exist, and no more units than 27 allows with it.
-fn need_retagging(rng: &mut Rng, lists: &mut Lists) {
-    if lists.of(Table::Retagging).is_empty() {
-        push_any(rng, lists, Table::Retagging, 1);
-        put_known_vlans(rng, lists, 0);
-        let sum = rng.between(0, MOST_UNITS_WITH_12);
-        put_units(rng, lists, sum);
     }
 }
 

@@ -28,8 +28,4 @@ pub mod rng;
 pub mod rules;
 mod tally;
 #[cfg(test)]
-mod wrong;
-#[cfg(test)]
 mod wrong_replicas;
-#[cfg(test)]
-mod wrong_rules;

@@ -1,5 +1,4 @@
-//! Named cases of replicas and of rule 27 that only calls can tell apart: edited images, and the ledger
-//! afterwards.
+//! Named cases of replicas that only calls can tell apart: edited images, and the ledger afterwards.
 //! Each gives Ok, or says what came out otherwise than its clause has it.
 
 use reference::image::{count_place, start_of, IMAGE_WORDS, MARK};
@@ -7,11 +6,10 @@ use reference::judge::{judge, release, Judged, ReleaseAnswer, Sent, Verdict};
 use reference::ledger::{fresh_ledger, Ledger};
 use reference::load::{load_words, write, LoadAnswer, LoadState};
 use reference::stream::{plain_stream, Lists};
-use reference::tables::{forwarding_parameters, mac_configuration, policing, retagging};
-use reference::tables::{vlan_lookup, Field, Table};
+use reference::tables::{mac_configuration, policing, retagging, vlan_lookup, Table};
 use reference::tile::{tile, TileAnswer};
 
-use crate::build::{open, open_with, with, with_retagging, with_vlan, Frame};
+use crate::build::{open, with_retagging, with_vlan, Frame};
 use crate::edit::put_value;
 use crate::named_calls::{same, CallCase};
 
@@ -20,8 +18,6 @@ const COUNTS: &str =
 const EDITED: &str =
     "document 02, request 2, in an edited image: drop 4, and the first entry counts";
 const LEDGER: &str = "document 02, request 2: tiles count originals only; refusals are the frame's";
-const UNITS: &str =
-    "document 02, request 3: a loading rule that asks 12's count; no call asks it again";
 
 pub const CASES: &[CallCase] = &[
     ("replica_entries_beyond_the_count", COUNTS, entries_beyond_the_count),
@@ -32,10 +28,6 @@ pub const CASES: &[CallCase] = &[
     ("no_replica_of_drop_4", EDITED, no_replica_of_drop_4),
     ("replica_first_of_twin_vlans", EDITED, first_of_twin_vlans),
     ("28_is_not_asked_again", EDITED, rule_28_is_not_asked_again),
-    ("27_leaves_zeros", UNITS, rule_27_leaves_zeros),
-    ("27_asks_the_count_at_the_end", UNITS, rule_27_asks_the_count_at_the_end),
-    ("27_is_not_asked_again_of_units", UNITS, rule_27_is_not_asked_again_of_units),
-    ("27_is_not_asked_again_of_a_count", UNITS, rule_27_is_not_asked_again_of_a_count),
     ("replica_other_bits_edited", EDITED, other_bits_edited),
     ("replica_moves_no_tile_and_no_time", LEDGER, no_tile_and_no_time),
     ("replica_is_no_frame_at_38", LEDGER, no_frame_at_38),
@@ -54,13 +46,9 @@ fn fresh(image: &[u32]) -> Result<Ledger, String> {
 }
 
 /// K with 100 units, VLANs 2 (with tags) and 3, and entries for port 0 from VLAN 1 to 2 and to 3.
-fn retagged_lists() -> Lists {
-    let lists = with_vlan(with_vlan(open(), 2, 31, 31, 31), 3, 31, 31, 0);
-    with_retagging(with_retagging(lists, 1, 1, 2), 1, 1, 3)
-}
-
 fn retagged() -> Vec<u32> {
-    loaded(&retagged_lists())
+    let lists = with_vlan(with_vlan(open(), 2, 31, 31, 31), 3, 31, 31, 0);
+    loaded(&with_retagging(with_retagging(lists, 1, 1, 2), 1, 1, 3))
 }
 
 const RETAGGING_COUNT: usize = count_place(Table::Retagging);
@@ -220,84 +208,6 @@ fn rule_28_is_not_asked_again() -> Result<(), String> {
     let mut image = retagged();
     put_value(&mut image, retagging::VLAN_EGR, 0, 9);
     same("VLAN_EGR", broadcast(&image)?, judged(ON_1, &[Verdict::Drop(4), ON_3]))
-}
-
-/// A partition that no frame uses, beside the 100 units of partition 0.
-const OTHER_UNITS: Field = forwarding_parameters::part_spc(5);
-
-/// 911 units: refused as a whole load and as writes, whose answer is then repeated.
-fn rule_27_leaves_zeros() -> Result<(), String> {
-    let stream = plain_stream(&with(retagged_lists(), &[(OTHER_UNITS, 0, 811)]));
-    let mut expected = vec![0; IMAGE_WORDS];
-    expected.extend([9, 9]);
-    let mut image = vec![9; IMAGE_WORDS + 2];
-    same("27", load_words(&mut image, &stream), LoadAnswer::Refused(27))?;
-    same("zeros", &image, &expected)?;
-    let mut image = vec![9; IMAGE_WORDS + 2];
-    let mut state = LoadState::fresh();
-    for chunk in stream.chunks(64) {
-        state = write(&mut image, state, chunk).1;
-    }
-    let told =
-        LoadState { begun: true, answer: Some(LoadAnswer::Refused(27)), ..LoadState::fresh() };
-    same("state", state, told)?;
-    same("repeated", write(&mut image, state, &[0]), (LoadAnswer::Refused(27), told))?;
-    same("zeros behind writes", &image, &expected)
-}
-
-/// 929 units. 12's count is put to another number before the end block comes, and counts as it stands.
-fn rule_27_asks_the_count_at_the_end() -> Result<(), String> {
-    let none = open_with(&[(OTHER_UNITS, 0, 829)]);
-    let one = with_retagging(none.clone(), 1, 1, 1);
-    let refused = LoadAnswer::Refused(27);
-    for (lists, count, expected) in [
-        (&none, 0, LoadAnswer::Loaded),
-        (&none, 1, refused),
-        (&one, 1, refused),
-        (&one, 0, LoadAnswer::Loaded),
-    ] {
-        let stream = plain_stream(lists);
-        let mut image = vec![9; IMAGE_WORDS];
-        let mut state = LoadState::fresh();
-        let (blocks, end) = stream.split_at(stream.len() - 3);
-        for chunk in blocks.chunks(64) {
-            state = write(&mut image, state, chunk).1;
-        }
-        image[RETAGGING_COUNT] = count;
-        same("answer", write(&mut image, state, end).0, expected)?;
-    }
-    Ok(())
-}
-
-/// Loaded with 910 units; edited to numbers that 27 and then 24 refuse, the image is judged.
-fn rule_27_is_not_asked_again_of_units() -> Result<(), String> {
-    let mut image = loaded(&with(retagged_lists(), &[(OTHER_UNITS, 0, 810)]));
-    same("loaded", image[MARK], 1)?;
-    // Sums of 910, 911, 929, 930 and 1,123.
-    for units in [810, 811, 829, 830, 1023] {
-        put_value(&mut image, OTHER_UNITS, 0, units);
-        let ledger = fresh(&image)?;
-        same("fresh", ledger.units, [100, 0, 0, 0, 0, units, 0, 0])?;
-        let (told, after) = judge(&image, ledger, 0, 0, &Frame::broadcast().bytes());
-        same("judged", told, judged(ON_1, &[ON_2, ON_3]))?;
-        same("units", after.units, [97, 0, 0, 0, 0, units, 0, 0])?;
-        let (told, after) = release(&image, after, 0);
-        same("released", (told, after.units[0]), (ReleaseAnswer::Released, 98))?;
-        let none = TileAnswer::Shares { frames: 0.0, octets: 0.0 };
-        same("tile", tile(&image, &after, 0), none)?;
-    }
-    Ok(())
-}
-
-/// Loaded with 929 units and no entry; with a count of 1, over zeros and over an entry, it is judged.
-fn rule_27_is_not_asked_again_of_a_count() -> Result<(), String> {
-    let mut image = loaded(&open_with(&[(OTHER_UNITS, 0, 829)]));
-    same("loaded", image[MARK], 1)?;
-    image[RETAGGING_COUNT] = 1;
-    same("zeros", broadcast(&image)?, judged(ON_1, &[]))?;
-    let first = start_of(Table::Retagging);
-    image[first..first + 2].copy_from_slice(&[0x4000_0000, 0x0040_0400]);
-    same("an entry", broadcast(&image)?, judged(ON_1, &[ON_1]))
 }
 
 /// EGR_PORT, DO_NOT_LEARN, USE_DEST_PORTS, DESTPORTS and the unused bits, each turned over. (RETAG, bit 4

@@ -1,13 +1,11 @@
-//! Named cases of block 12 and rules 27 and 28. Each expectation is derived by hand from the clause it
-//! names.
+//! Named cases of block 12 and rule 28. Each expectation is derived by hand from the clause it names.
 
 use reference::crc;
 use reference::k;
 use reference::stream::{cut_blocks, plain_blocks, stream_of, Block, End, Lists, DEVICE_ID};
-use reference::tables::{forwarding_parameters, policing, retagging, Table};
+use reference::tables::{forwarding_parameters, retagging, Table};
 
-use crate::build::{open, with, with_address, with_retagging, with_units, with_vlan, A};
-use crate::build::{Address, Frame, List};
+use crate::build::{open, with, with_address, with_retagging, with_vlan, Address, Frame, List, A};
 use crate::case::Case;
 use crate::damage::flip;
 
@@ -15,8 +13,6 @@ const LENGTHS: &str =
     "document 02, request 2: two-word entries, at most 32; 4 no longer covers ID 12";
 const FRAMING: &str = "document 01, framing in order 8, else 2, 3, 4, 5, 6, 7";
 const BLOCKS: &str = "document 01, The stream: a table in several blocks; any order";
-const RULE_27: &str =
-    "document 02, request 3: 27, directly after 24, for 911 to 929 with retagging loaded";
 const RULE_28: &str = "document 02, request 2: 28, after 25, an ingress or egress VLAN not in 07";
 
 pub fn cases() -> Vec<Case> {
@@ -24,10 +20,6 @@ pub fn cases() -> Vec<Case> {
     cases.extend(checksums());
     cases.extend(lengths());
     cases.extend(pieces());
-    cases.extend(sums());
-    cases.extend(rule_27());
-    cases.extend(rule_27_among_others());
-    cases.extend(rule_27_in_any_order());
     cases.extend(rule_28());
     cases.extend(rule_28_is_last());
     cases
@@ -145,106 +137,18 @@ fn pieces() -> Vec<Case> {
     ]
 }
 
-/// The sum, what it is told without an entry of 12, and what with one.
-fn sums() -> Vec<Case> {
-    let mut cases = Vec::new();
-    for (sum, without, with_12) in [(910, 0, 0), (911, 0, 27), (929, 0, 27), (930, 24, 24)] {
-        let lists = with_units(k::lists(), sum);
-        let case = |name: &str, lists: &Lists, number| {
-            Case::of_lists(&format!("sum_{sum}_{name}"), RULE_27, lists).told(number)
-        };
-        cases.push(case("without_12", &lists, without));
-        cases.push(case("with_12", &with_retagging(lists, 1, 1, 1), with_12));
-    }
-    cases
-}
-
-/// Whatever an entry says, however many there are, and whichever partition has the units.
-fn rule_27() -> Vec<Case> {
-    let vlan_0_and_2 = with_vlan(with_vlan(k::lists(), 0, 31, 31, 0), 2, 31, 31, 0);
-    let mut cases = Vec::new();
-    for (sum, number) in [(910, 0), (911, 27)] {
-        let mut case = |name: &str, lists: &Lists| {
-            let name = format!("27_{name}_{sum}");
-            cases.push(Case::of_lists(&name, RULE_27, lists).told(number));
-        };
-        let lists = with_units(vlan_0_and_2.clone(), sum);
-        let entry = |ports, ingress, egress| with_retagging(lists.clone(), ports, ingress, egress);
-        case("ing_port_0", &entry(0, 1, 2));
-        case("ing_port_31", &entry(31, 1, 2));
-        // No port has VLANID 2, and VLAN_EGR is VLAN_ING.
-        case("vlan_of_no_port", &entry(31, 2, 2));
-        case("entry_of_zeros", &entry(0, 0, 0));
-        case("32_entries", &with_units(with_entries(32), sum));
-        for (name, partition) in [("all_in_first", 0), ("all_in_last", 7)] {
-            let all = [(forwarding_parameters::part_spc(partition), 0, sum)];
-            case(name, &with(with_retagging(with_units(k::lists(), 0), 1, 1, 1), &all));
-        }
-    }
-    // 910 in eight parts of 113 and 114, and one more in any of them.
-    let sum_910 = with_retagging(with_units(k::lists(), 910), 1, 1, 1);
-    for partition in 0..8 {
-        let field = forwarding_parameters::part_spc(partition);
-        let lists = with(sum_910.clone(), &[(field, 0, sum_910.get(field, 0) + 1)]);
-        let name = format!("27_one_more_in_{partition}");
-        cases.push(Case::of_lists(&name, RULE_27, &lists).refused(27));
-    }
-    cases
-}
-
-/// Two entries of 05, the first with INDEX 7.
-fn two_indexes(index: u64) -> Lists {
-    let address = |index| Address { vlan: 1, address: A, ports: 2, enforced: false, index };
-    with_address(with_address(k::lists(), address(7)), address(index))
-}
-
-/// Rules before it are told first, those behind it after it; with 910 units what else is broken is told.
-fn rule_27_among_others() -> Vec<Case> {
-    let kept = |lists| with_retagging(lists, 1, 1, 1);
-    let stray = with_retagging(k::lists(), 1, 1, 3);
-    let shared = kept(with(k::lists(), &[(policing::SHARINDX, 0, 45)]));
-    let case = |name, lists: Lists, sum, number| {
-        Case::of_lists(name, RULE_27, &with_units(lists, sum)).refused(number)
-    };
-    vec![
-        case("27_behind_23", shared.clone(), 911, 23),
-        case("27_kept_and_23", shared, 910, 23),
-        case("27_behind_24", kept(k::lists()), 1023, 24),
-        case("27_before_25", kept(two_indexes(7)), 911, 27),
-        case("27_kept_and_25", kept(two_indexes(7)), 910, 25),
-        case("27_and_25_kept", kept(two_indexes(8)), 911, 27),
-        case("27_before_28", stray.clone(), 911, 27),
-        case("27_kept_and_28", stray, 910, 28),
-        case("27_before_25_and_28", with_retagging(two_indexes(7), 1, 1, 3), 929, 27),
-        case("27_not_asked_and_25", two_indexes(7), 929, 25),
-    ]
-}
-
-/// 12 before 0E, behind it, and around it: the rule asks what stands there at the end.
-fn rule_27_in_any_order() -> Vec<Case> {
-    let mut cases = Vec::new();
-    for (sum, number) in [(910, 0), (911, 27)] {
-        let behind = cut(&with_units(with_entries(2), sum), &[1]);
-        let mut before = behind.clone();
-        before.rotate_right(2);
-        let mut around = behind.clone();
-        around.rotate_right(1);
-        let mut case = |name, blocks: &[Block]| {
-            cases.push(of_blocks(&format!("27_12_{name}_0e_{sum}"), RULE_27, blocks).told(number));
-        };
-        case("before", &before);
-        case("behind", &behind);
-        case("around", &around);
-    }
-    cases
-}
-
 fn rule_28() -> Vec<Case> {
     let known = |vlans: &[u64]| {
         vlans.iter().fold(k::lists(), |lists, &vlan| with_vlan(lists, vlan, 31, 31, 0))
     };
-    let case =
-        |name: &str, lists: &Lists, number| Case::of_lists(name, RULE_28, lists).told(number);
+    let case = |name: &str, lists: &Lists, number| {
+        let case = Case::of_lists(name, RULE_28, lists);
+        if number == 0 {
+            case.loaded()
+        } else {
+            case.refused(number)
+        }
+    };
     let entry = |vlans: &[u64], ports, ingress, egress| {
         with_retagging(known(vlans), ports, ingress, egress)
     };
@@ -286,15 +190,17 @@ fn rule_28() -> Vec<Case> {
 
 /// Every rule before it is told first; 07 as it stands at the end is asked, not as far as it came.
 fn rule_28_is_last() -> Vec<Case> {
+    let address = |index| Address { vlan: 1, address: A, ports: 2, enforced: false, index };
+    let two = |index| with_address(with_address(k::lists(), address(7)), address(index));
     let broken = |lists| with_retagging(lists, 1, 3, 3);
     let kept = |lists| with_retagging(lists, 1, 1, 1);
     let units = [(forwarding_parameters::part_spc(0), 0, 930)];
     let case = |name, lists: &Lists| Case::of_lists(name, RULE_28, lists);
     vec![
-        case("28_alone", &broken(two_indexes(8))).refused(28),
-        case("28_behind_25", &broken(two_indexes(7))).refused(25),
-        case("28_kept_and_25", &kept(two_indexes(7))).refused(25),
-        case("28_and_25_kept", &kept(two_indexes(8))).loaded(),
+        case("28_alone", &broken(two(8))).refused(28),
+        case("28_behind_25", &broken(two(7))).refused(25),
+        case("28_kept_and_25", &kept(two(7))).refused(25),
+        case("28_and_25_kept", &kept(two(8))).loaded(),
         case("28_behind_24", &broken(with(k::lists(), &units))).refused(24),
     ]
 }

@@ -8,8 +8,8 @@ use reference::stream::{Block, End, Lists, DEVICE_ID};
 use reference::tables::{address_lookup, forwarding_parameters, mac_configuration, policing};
 use reference::tables::{vlan_lookup, Table, ROWS};
 
-use crate::build::{not_carried, open_with, refusal_of_id, with, with_address, with_retagging};
-use crate::build::{with_units, with_vlan, Address, A, B};
+use crate::build::{not_carried, open_with, refusal_of_id, with, with_address, with_vlan};
+use crate::build::{Address, A, B};
 use crate::case::Case;
 use crate::damage::one_entry_a_block;
 use crate::rules::{least_entries, RULES};
@@ -275,6 +275,12 @@ fn rules() -> Vec<Case> {
         (mac_configuration::VLANID, 3, 9),
     ];
     let not_member = [(vlan_lookup::VMEMB_PORT, 0, 0b11011)];
+    let mut spread: Vec<_> =
+        (0..8).map(|partition| (forwarding_parameters::part_spc(partition), 0, 116)).collect();
+    spread[0].2 = 117;
+    let sum_929 = with(k::lists(), &spread);
+    spread[7].2 = 117;
+    let sum_930 = with(k::lists(), &spread);
     let twins = with_address(with_address(k::lists(), address(5, A, 1)), address(6, A, 1));
     let one_index = with_address(with_address(k::lists(), address(5, A, 1)), address(5, B, 2));
     // Entry 0 names entry 44, which comes in a later block.
@@ -284,8 +290,8 @@ fn rules() -> Vec<Case> {
     let mut cases = vec![
         of_lists("22_asks_closed_ports", &open_with(&closed)).refused(22),
         of_lists("22_asks_no_membership", &open_with(&not_member)).loaded(),
-        of_lists("24_adds_all_eight_929", &with_units(k::lists(), 929)).loaded(),
-        of_lists("24_adds_all_eight_930", &with_units(k::lists(), 930)).refused(24),
+        of_lists("24_adds_all_eight_929", &sum_929).loaded(),
+        of_lists("24_adds_all_eight_930", &sum_930).refused(24),
         of_lists("25_one_address_two_indexes", &twins).loaded(),
         of_lists("25_two_addresses_one_index", &one_index).refused(25),
         Case::of_words("23_final_count", RULES_22_TO_25, &stream_of(&blocks, End::default()))
@@ -314,11 +320,6 @@ fn breach(lists: &mut Lists, rule: u32) {
         22 => lists.put(mac_configuration::VLANID, 4, 9),
         23 => lists.put(policing::SHARINDX, 0, 63),
         24 => lists.put(forwarding_parameters::part_spc(0), 0, 930),
-        // Beside a unit of K's, or beside those that break 24.
-        27 => {
-            lists.put(forwarding_parameters::part_spc(1), 0, 910);
-            *lists = with_retagging(std::mem::take(lists), 1, 1, 1);
-        }
         25 => {
             for _ in 0..2 {
                 let number = lists.push_zero(Table::L2AddressLookup);
@@ -344,7 +345,7 @@ fn rule_pairs() -> Vec<Case> {
                 breach(&mut lists, second);
             }
             let name = format!("rules_{first}_and_{second}");
-            let clause = "documents 01 and 02, loading rules, run in this order";
+            let clause = "document 01, loading rules, run in this order";
             cases.push(Case::of_lists(&name, clause, &lists).refused(first));
         }
     }

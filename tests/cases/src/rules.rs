@@ -1,25 +1,11 @@
 //! What the cases know of refusals, by hand: the loading rules' numbers, the entries that a table
-//! needs, the units that partitions may have, and every number there is. Document 01, "Numbers for a
-//! refused load" and later; document 02, requests 2 and 3.
+//! needs, and every number there is. Document 01, "Numbers for a refused load" and later; document 02,
+//! request 2.
 
-use reference::stream::Lists;
 use reference::tables::Table;
 
 /// The rules' numbers, in the order in which they are asked.
-pub const RULES: &[u32] = &[20, 21, 22, 23, 24, 27, 25, 28];
-
-/// Rules 24 and 27: the most units of the eight partitions together, and the most with an entry in 12.
-pub(crate) const MOST_UNITS: u64 = 929;
-pub(crate) const MOST_UNITS_WITH_12: u64 = 910;
-
-/// The most units of a configuration with these tables, if it is to load.
-pub(crate) fn units_allowed(lists: &Lists) -> u64 {
-    if lists.of(Table::Retagging).is_empty() {
-        MOST_UNITS
-    } else {
-        MOST_UNITS_WITH_12
-    }
-}
+pub const RULES: &[u32] = &[20, 21, 22, 23, 24, 25, 28];
 
 /// Rule 20: the tables that must have entries, and how many at least. Any other may be absent.
 pub(crate) const NEEDED: &[(Table, usize)] = &[

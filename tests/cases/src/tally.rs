@@ -28,8 +28,6 @@ const BOUNDARIES: &[&str] = &[
     "23 SHARINDX",
     "24 sum of PART_SPC",
     "25 two INDEXes",
-    "27 entry of 12",
-    "27 sum of PART_SPC with 12",
     "28 VLAN_EGR",
     "28 VLAN_ING",
     "30 count of {row}",

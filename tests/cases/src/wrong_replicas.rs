@@ -1,23 +1,27 @@
-//! Wrong programs with a fault in what becomes of replicas.
+//! Wrong programs, in tests only: each has one fault in what becomes of replicas or in rule 28, and a
+//! named case must tell it apart by what it expects.
 //!
 //! They are a program of their own, which runs no step of a replica: it asks for the verdict on an
 //! ordinary frame that goes the replica's way. That is an untagged one on an image where its port has
 //! the replica's VLAN and priority, drops nothing untagged, and no source is enforced. With no fault it
 //! prints what the reference prints.
 
-use reference::image::{count, count_place, entry, IMAGE_WORDS};
+use reference::image::{count, count_place, entry, start_of, IMAGE_WORDS};
 use reference::judge::{judge, release, Judged, ReleaseAnswer, Verdict};
 use reference::ledger::{fresh_ledger, Ledger, PortCounts};
 use reference::list::{Next, Reader, Record};
 use reference::load::{load_bytes, LoadAnswer};
 use reference::program::output_for;
+use reference::stream::{bytes_of, stream_of, words_of, Block, End};
 use reference::tables::{address_lookup, forwarding, mac_configuration, read_field, retagging};
-use reference::tables::{Field, Table};
+use reference::tables::{vlan_lookup, Field, Table};
 use reference::tile::{tile, TileAnswer};
 
 use crate::case::Case;
+use crate::check::{generated, named};
+use crate::damage::blocks_in;
 use crate::edit::put_value;
-use crate::wrong::{compared, told_apart};
+use crate::rng::Rng;
 
 #[derive(Clone, Copy, PartialEq, Eq, Debug)]
 enum Wrong {
@@ -55,10 +59,18 @@ enum Wrong {
     OfTaggedFramesOnly,
     JudgedBeforeTheFrame,
     PrintedBeforeTheFrame,
+    /// 28 asks VLAN_EGR only.
+    VlanIngNotAsked,
+    /// 28 asks VLAN_ING only.
+    VlanEgrNotAsked,
+    /// 28 lets an entry without ports by.
+    EntryWithoutPortsNotAsked,
+    /// 28 is told before 25.
+    Rule28Before25,
 }
 
 /// Each fault, and the case that must tell it apart.
-const FAULTS: [(Wrong, &str); 20] = [
+const FAULTS: [(Wrong, &str); 24] = [
     (Wrong::ReplicatedAgain, "replica_is_not_replicated"),
     (Wrong::NotedInTheTile, "tile_without_sent_replicas"),
     (Wrong::MembershipAsked, "replica_not_asked_5"),
@@ -79,16 +91,28 @@ const FAULTS: [(Wrong, &str); 20] = [
     (Wrong::OfTaggedFramesOnly, "replica_untagged"),
     (Wrong::JudgedBeforeTheFrame, "units_1_for_two"),
     (Wrong::PrintedBeforeTheFrame, "replica_untagged"),
+    (Wrong::VlanIngNotAsked, "28_vlan_ing"),
+    (Wrong::VlanEgrNotAsked, "28_vlan_egr"),
+    (Wrong::EntryWithoutPortsNotAsked, "28_ing_port_0_vlan_ing"),
+    (Wrong::Rule28Before25, "28_behind_25"),
 ];
 
 #[test]
 fn every_fault_is_told_apart_by_its_named_case() {
-    told_apart(&FAULTS, |wrong, case| case.held_to(output(wrong, case)).is_ok());
+    let named = named();
+    for (wrong, name) in FAULTS {
+        let case = named.iter().find(|case| case.name == name).expect(name);
+        case.run().expect(name);
+        let printed = output(wrong, case);
+        assert!(case.held_to(printed).is_err(), "{wrong:?} is not told apart by {name}");
+    }
 }
 
 #[test]
 fn without_a_fault_it_prints_what_the_reference_prints() {
-    for case in compared() {
+    let mut rng = Rng::new(2);
+    let seeded = (0..300).map(|number| generated(&mut rng, number));
+    for case in named().into_iter().chain(seeded) {
         let expected = output_for(&case.stream, &case.list);
         assert_eq!(output(Wrong::Nothing, &case), expected, "{}", case.name);
     }
@@ -96,6 +120,72 @@ fn without_a_fault_it_prints_what_the_reference_prints() {
 
 fn get(image: &[u32], field: Field, number: usize) -> u64 {
     read_field(entry(image, field.table, number), field)
+}
+
+/// The entries of a table in a stream that framing lets by.
+fn entries_in(words: &[u32], table: Table) -> Vec<Vec<u32>> {
+    let mut entries = Vec::new();
+    for block in blocks_in(words) {
+        if words[block.start] >> 24 == u32::from(table.id()) {
+            let data = &words[block.start + 3..block.start + 3 + block.data];
+            entries.extend(data.chunks(table.words()).map(<[u32]>::to_vec));
+        }
+    }
+    entries
+}
+
+/// Some entry of 12, of those that are asked, has in one of these fields a VLAN that no entry of 07 has.
+fn names_no_vlan(wrong: Wrong, words: &[u32], fields: &[Field]) -> bool {
+    let vlans: Vec<u64> = entries_in(words, Table::VlanLookup)
+        .iter()
+        .map(|entry| read_field(entry, vlan_lookup::VLANID))
+        .collect();
+    let mut named = entries_in(words, Table::Retagging);
+    if wrong == Wrong::EntryWithoutPortsNotAsked {
+        named.retain(|entry| read_field(entry, retagging::ING_PORT) != 0);
+    }
+    named.iter().any(|entry| fields.iter().any(|&field| !vlans.contains(&read_field(entry, field))))
+}
+
+/// Loads a stream, with the fault where it is one of rule 28.
+fn load(wrong: Wrong, image: &mut [u32], stream: &[u8]) -> LoadAnswer {
+    let answer = load_bytes(image, stream);
+    let words = words_of(stream);
+    let both = [retagging::VLAN_ING, retagging::VLAN_EGR];
+    let fields = match wrong {
+        Wrong::VlanIngNotAsked => &both[1..],
+        Wrong::VlanEgrNotAsked => &both[..1],
+        _ => &both[..],
+    };
+    match answer {
+        LoadAnswer::Refused(28) if !names_no_vlan(wrong, &words, fields) => {
+            load_without_28(image, &words)
+        }
+        LoadAnswer::Refused(25)
+            if wrong == Wrong::Rule28Before25 && names_no_vlan(wrong, &words, fields) =>
+        {
+            LoadAnswer::Refused(28)
+        }
+        _ => answer,
+    }
+}
+
+/// A stream that 28 alone refuses: loaded without 12, whose entries are then put in place.
+fn load_without_28(image: &mut [u32], words: &[u32]) -> LoadAnswer {
+    let mut blocks = Vec::new();
+    for block in blocks_in(words) {
+        let id = (words[block.start] >> 24) as u8;
+        if block.data > 0 && id != Table::Retagging.id() {
+            let data = words[block.start + 3..block.start + 3 + block.data].to_vec();
+            blocks.push(Block::plain(id, data));
+        }
+    }
+    let answer = load_bytes(image, &bytes_of(&stream_of(&blocks, End::default())));
+    let data = entries_in(words, Table::Retagging).concat();
+    let first = start_of(Table::Retagging);
+    image[first..first + data.len()].copy_from_slice(&data);
+    image[count_place(Table::Retagging)] = (data.len() / Table::Retagging.words()) as u32;
+    answer
 }
 
 /// A frame's VLAN and priority, where it is past drop 3.
@@ -320,7 +410,7 @@ fn tile_line(image: &[u32], ledger: &Ledger, port: usize) -> String {
 fn output(wrong: Wrong, case: &Case) -> String {
     let mut image = vec![0; IMAGE_WORDS];
     let mut lines = Vec::new();
-    match (load_bytes(&mut image, &case.stream), fresh_ledger(&image)) {
+    match (load(wrong, &mut image, &case.stream), fresh_ledger(&image)) {
         (LoadAnswer::Loaded, Ok(mut ledger)) => {
             lines.push("config loaded".to_string());
             lines.extend(run_list(wrong, &image, &mut ledger, &case.list));

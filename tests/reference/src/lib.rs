@@ -1,5 +1,5 @@
-//! The independent second program: document 01, and requests 2 and 3 of document 02, rendered plainly,
-//! one room a subject. Written from the documents and the decisions alone; slow where slow is plain.
+//! The independent second program: document 01, and request 2 of document 02, rendered plainly, one
+//! room a subject. Written from the documents and the decisions alone; slow where slow is plain.
 
 pub mod crc;
 pub mod image;

@@ -1,5 +1,5 @@
 //! The loading rules, run in their order once the end block has passed.
-//! Document 01, "Numbers for a refused load", second table; 27 and 28 are document 02's, requests 3 and 2.
+//! Document 01, "Numbers for a refused load", second table; 28 is document 02's, request 2.
 
 use crate::image::{count, value, values};
 use crate::tables::{address_lookup, forwarding_parameters, mac_configuration, policing};
@@ -7,9 +7,6 @@ use crate::tables::{retagging, vlan_lookup, Table};
 
 /// The most units that the eight partitions may have together.
 const MOST_UNITS: u64 = 929;
-
-/// The most with an entry in 12: the loopback port takes frame memory too.
-const MOST_UNITS_WITH_RETAGGING: u64 = 910;
 
 /// The number of the first rule that the image breaks. Counts must be within their limits.
 pub fn first_broken_rule(image: &[u32]) -> Option<u32> {
@@ -27,9 +24,6 @@ pub fn first_broken_rule(image: &[u32]) -> Option<u32> {
     }
     if rule_24_broken(image) {
         return Some(24);
-    }
-    if rule_27_broken(image) {
-        return Some(27);
     }
     if rule_25_broken(image) {
         return Some(25);
@@ -72,20 +66,11 @@ fn rule_23_broken(image: &[u32]) -> bool {
 
 /// The eight PART_SPC add up to more than 929.
 fn rule_24_broken(image: &[u32]) -> bool {
-    sum_of_part_spc(image) > MOST_UNITS
-}
-
-/// 12 has an entry, whatever its ports and VLANs, and the eight PART_SPC add up to more than 910.
-fn rule_27_broken(image: &[u32]) -> bool {
-    count(image, Table::Retagging) > 0 && sum_of_part_spc(image) > MOST_UNITS_WITH_RETAGGING
-}
-
-fn sum_of_part_spc(image: &[u32]) -> u64 {
     let mut sum = 0;
     for partition in 0..8 {
         sum += value(image, forwarding_parameters::part_spc(partition), 0);
     }
-    sum
+    sum > MOST_UNITS
 }
 
 /// Two entries of 05 have one INDEX.

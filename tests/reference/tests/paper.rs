@@ -1,6 +1,5 @@
-//! What is stated outright: K's whole output and the rows (c) to (k) of document 01; of document 02 the
-//! output that is worked for request 2 and the sums of request 3. Rows (a) and (b) stand beside the
-//! fields, in `tables.rs`.
+//! What is stated outright: K's whole output and the rows (c) to (k) of document 01, and the output that
+//! is worked for request 2 of document 02. Rows (a) and (b) stand beside the fields, in `tables.rs`.
 
 use reference::image::{self, IMAGE_WORDS};
 use reference::judge::{judge, Verdict};
@@ -123,21 +122,6 @@ fn rows_f_and_g_929_passes_930_is_24() {
     let refused = plain_stream(&k_with_partition_sum(930));
     assert_eq!(answer_to(&passes), LoadAnswer::Loaded);
     assert_eq!(answer_to(&refused), LoadAnswer::Refused(24));
-}
-
-/// Request 3: 910 at most with an entry, 27 for 911 to 929, and 24 stays above them.
-#[test]
-fn with_retagging_910_passes_911_to_929_are_27_and_930_is_24() {
-    let answer = |sum| {
-        let mut lists = k_with_partition_sum(sum);
-        lists.of_mut(Table::Retagging).push(vec![0x4000_0000, 0x0040_0400]);
-        answer_to(&plain_stream(&lists))
-    };
-    assert_eq!(answer(910), LoadAnswer::Loaded);
-    for sum in 911..=929 {
-        assert_eq!(answer(sum), LoadAnswer::Refused(27), "{sum}");
-    }
-    assert_eq!(answer(930), LoadAnswer::Refused(24));
 }
 
 /// The verdict on a broadcast with L 64 on port 0, after so long, from credit 0.

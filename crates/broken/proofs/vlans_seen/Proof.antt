@@ -1,8 +1,6 @@
 -- `broken::vlans_seen`: what the marks say after each turn is a law of the scan.
-use mathlib.Core.Path.{◌≡◌, sym, subst}
 use mathlib.Core.List.{List}
 use Prim.Native.Nat.{ℕ, ◌-◌, ◌≤◌}
-use lib.ListN.{replicate}
 use borrow.Author.Rules.{rules}
 use Rattle.laws.specs.Chain.{lt_of}
 use Rattle.laws.specs.Scan.{Counting}
@@ -18,13 +16,10 @@ abbrev value : List ℕ → ℕ → ℕ
 value image i = vlanid (image_in image) i
 
 abbrev invariant_loop : tie.invariant_loop
-invariant_loop image marks₀ n again₀ i₀ marks again i = (i ≤ n) × Counting (value image) 4096 i again marks
+invariant_loop image n seen₀ i₀ seen i = (i ≤ n) × Counting (value image) 4096 i seen.again seen.marks
 
 abbrev decreases_loop : tie.decreases_loop
-decreases_loop image marks₀ n again₀ i₀ marks again i = n - i
-
-starts : (image marks : List ℕ) → marks ≡ replicate 4096 0 → Counting (value image) 4096 0 0 marks
-starts image marks e = subst (Counting (value image) 4096 0 0) (sym e) (counting_none (value image) 4096)
+decreases_loop image n seen₀ i₀ seen i = n - i
 
 pub vlans_seen_spec : {M : Type 1} → statement M
 vlans_seen_spec =
@@ -33,7 +28,7 @@ vlans_seen_spec =
     invariant_loop
     decreases_loop
     (λ c κs. search rules)
-    (λ c. search (rules, starts))
+    (λ c. search (rules, counting_none))
     (λ c κs. search (rules, held, lt_of))
     (λ c. search rules)
     (λ c κs. search rules)

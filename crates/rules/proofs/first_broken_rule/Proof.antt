@@ -10,10 +10,10 @@ use Rattle.rules.proofs.first_broken_rule.Statement.{statement}
 use Rattle.rules.proofs.first_broken_rule.Tie as tie
 
 abbrev invariant_loop : tie.invariant_loop
-invariant_loop image marks again k₀ k = (k ≤ rule_count) × (broken_before (image_in image) k ≡ false)
+invariant_loop image seen k₀ k = (k ≤ rule_count) × (broken_before (image_in image) k ≡ false)
 
 abbrev decreases_loop : tie.decreases_loop
-decreases_loop image marks again k₀ k = rule_count - k
+decreases_loop image seen k₀ k = rule_count - k
 
 pub first_broken_rule_spec : {M : Type 1} → statement M
 first_broken_rule_spec =

@@ -16,5 +16,4 @@ tested_spec =
     (λ c κs. search (rules, asked)) (λ c κs. tt) (λ c. search (rules, says))
     (λ c κs. search (rules, asked)) (λ c κs. tt) (λ c. search (rules, says))
     (λ c κs. search (rules, asked)) (λ c κs. tt) (λ c. search (rules, says))
-    (λ c κs. search (rules, asked)) (λ c κs. tt) (λ c. search (rules, says))
     (λ c. search (rules, no_rule)))
