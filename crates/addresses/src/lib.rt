@@ -150,7 +150,7 @@ fn lower(image: &[u32], shared: u64, vlan: u64, mac: u64, i: usize, low: u64) ->
 }
 
 // The best match so far and its INDEX; the count of 05 and 1,024 where there is none.
-#[derive(Drop)]
+#[derive(Clone, Copy)]
 struct Best {
     pub entry: usize,
     pub low: u64,

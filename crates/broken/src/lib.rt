@@ -23,7 +23,7 @@ fn wide(x: u8) -> usize
 }
 
 // What one pass over 07 leaves for rules 21, 22 and 28: a mark for each VLANID, and how often a mark was set already when its VLANID came.
-#[derive(Drop)]
+#[derive(Clone, Copy)]
 pub struct Seen {
     pub again: usize,
     pub marks: [u8; VLANIDS],

@@ -3,7 +3,7 @@ ghost use Rattle.std.specs.Prelude.{◌≡◌};
 ghost use Rattle.crc.specs.Crc.{word_in, words_in};
 
 // Two registers that the same words go into: one that began with a block, one that began with the stream.
-#[derive(Drop)]
+#[derive(Clone, Copy)]
 pub struct Both {
     pub block: u32,
     pub stream: u32,

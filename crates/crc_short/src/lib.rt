@@ -15,7 +15,7 @@ use crc_both::Both;
 use crc_short_bytes::byte;
 
 // What five words leave by the tables.
-#[derive(Drop)]
+#[derive(Clone, Copy)]
 struct Left {
     pub a: u64,
     pub b: u64,

@@ -9,7 +9,7 @@ ghost use Rattle.crc.specs.Crc.{bits_out};
 ghost use Rattle.crc_short_bytes.specs.Twice.{twice};
 
 // What a byte leaves, by how many bytes, its own with them, are still to leave, each number with the same two words later.
-#[derive(Drop)]
+#[derive(Clone, Copy)]
 pub struct Leaves {
     pub one: u64,
     pub two: u64,

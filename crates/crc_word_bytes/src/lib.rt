@@ -9,7 +9,7 @@ ghost use Rattle.crc.specs.Crc.{bits_out};
 use crc::bits_out;
 
 // What a byte leaves, by how many bytes, its own with them, are still to leave.
-#[derive(Drop)]
+#[derive(Clone, Copy)]
 pub struct Leaves {
     pub one: u32,
     pub two: u32,

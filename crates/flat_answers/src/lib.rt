@@ -10,7 +10,7 @@ use tile::shares::{Asked, Tile};
 
 // `kind`: 0 refused and 1 dropped, with the `number`; 2 sent, with the values, which are 0 before.
 #[repr(C)]
-#[derive(Drop)]
+#[derive(Clone, Copy)]
 pub struct FlatVerdict {
     pub kind: u32,
     pub number: u32,
@@ -27,7 +27,7 @@ pub struct FlatVerdict {
 
 // `kind`: 0 refused, with the `number`; 1 not-loaded; 2 no-frames; 3 shares, by their bits, which are 0 before.
 #[repr(C)]
-#[derive(Drop)]
+#[derive(Clone, Copy)]
 pub struct FlatTile {
     pub kind: u32,
     pub number: u32,

@@ -8,7 +8,7 @@ use places::PLACES;
 
 // A frame's verdict, and how many replicas stand in the lent places.
 #[repr(C)]
-#[derive(Drop)]
+#[derive(Clone, Copy)]
 pub struct FlatJudged {
     pub verdict: FlatVerdict,
     pub replicas: u64,

@@ -9,7 +9,7 @@ use records::Record;
 // `kind`: 0 refused, with the `number`; 1 a frame and 2 a release, as in the list itself; 3 the list's end. A frame's bytes are the `count`
 // bytes from `start` on; `next` is the place after the record. What a kind does not have is 0.
 #[repr(C)]
-#[derive(Drop)]
+#[derive(Clone, Copy)]
 pub struct FlatRecord {
     pub kind: u32,
     pub number: u32,

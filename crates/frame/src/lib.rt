@@ -15,14 +15,14 @@ const TAGGED: u64 = 0x8100;
 const LEAST_BYTES: usize = 60;
 
 // A frame's tag, with the place of its first byte.
-#[derive(Drop)]
+#[derive(Clone, Copy)]
 pub enum Tag {
     Untagged,
     Tagged { at: usize, priority: u64, vlan: u64 },
 }
 
 // Steps 1 to 3: dropped with the step's number, or taken in with its VLAN and priority.
-#[derive(Drop)]
+#[derive(Clone, Copy)]
 pub enum Intake {
     Dropped(u32),
     Taken {

@@ -6,7 +6,7 @@ ghost use Rattle.image.specs.Layout.{entry_words};
 ghost use Rattle.image.specs.Placed.{RowOf};
 
 // The tables that are carried, in the rows' order.
-#[derive(Drop)]
+#[derive(Clone, Copy)]
 pub enum Table {
     AddressLookup,
     Policing,
@@ -24,7 +24,7 @@ pub enum Table {
 pub const TABLES: usize = 10;
 
 // What a block ID names: a table that is carried, another table of the manual's table 2, or nothing there.
-#[derive(Drop)]
+#[derive(Clone, Copy)]
 pub enum Block {
     Carried(Table),
     NotCarried,
@@ -76,7 +76,7 @@ pub fn table_at(place: usize) -> Table
 }
 
 // A table's row: its place in the rows, where its entries start in the image, the words of an entry, the most entries that it takes.
-#[derive(Drop)]
+#[derive(Clone, Copy)]
 pub struct Row {
     pub place: usize,
     pub start: usize,

@@ -68,7 +68,7 @@ fn refusal(image: &[u32], row: &[u64; CELLS], port: usize, time: u64, frame: &[u
 }
 
 // The verdict, and how many replicas were told.
-#[derive(Drop)]
+#[derive(Clone, Copy)]
 pub struct Judgement {
     pub verdict: Verdict,
     pub replicas: usize,

@@ -30,13 +30,13 @@ pub const LAST: usize = DROPPED + PORTS;
 pub const CELLS: usize = LAST + 1;
 
 // The row by value.
-#[derive(Drop)]
+#[derive(Clone, Copy)]
 pub struct Ledger {
     pub cells: [u64; CELLS],
 }
 
 // The answer to a fresh ledger and to a release.
-#[derive(Drop)]
+#[derive(Clone, Copy)]
 pub enum Answer {
     Refused(u32),
     Done,

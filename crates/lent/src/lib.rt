@@ -8,20 +8,20 @@ use places::PLACES;
 use row::release::release;
 
 // A frame's port and time in µs, its bytes apart; a release of a partition.
-#[derive(Drop)]
+#[derive(Clone, Copy)]
 pub enum Event {
     Frame(usize, u64),
     Release(usize),
 }
 
-#[derive(Drop)]
+#[derive(Clone, Copy)]
 pub enum Told {
     Judged(Judgement),
     Released(Answer),
 }
 
 // What is told of a record, and the ledger afterwards.
-#[derive(Drop)]
+#[derive(Clone, Copy)]
 pub struct Brought {
     pub told: Told,
     pub ledger: Ledger,

@@ -16,7 +16,7 @@ use image::tables::Table;
 use stream::{Load, states};
 
 // Where a table's next entry goes, and the words that the table has left from there on.
-#[derive(Drop)]
+#[derive(Clone, Copy)]
 pub struct Room {
     pub place: usize,
     pub left: usize,

@@ -11,14 +11,14 @@ use frame::Intake;
 use image::tables::Table;
 
 // Step 4: the VLAN's place in 07.
-#[derive(Drop)]
+#[derive(Clone, Copy)]
 pub enum Placed {
     Absent,
     At(usize),
 }
 
 // Steps 1 to 6: dropped with the step's number, or let in with its VLAN, the VLAN's place in 07 and its priority p.
-#[derive(Drop)]
+#[derive(Clone, Copy)]
 pub enum Entered {
     Dropped(u32),
     In {

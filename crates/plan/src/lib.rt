@@ -13,7 +13,7 @@ use image::tables::Table;
 use ports::Sending;
 
 // Steps 7 and 8: no meter to use, too long for its policing entry, or let through by entry `policer` with the meter of entry `meter`.
-#[derive(Drop)]
+#[derive(Clone, Copy)]
 pub enum Policed {
     Unmetered,
     TooLong,
@@ -21,7 +21,7 @@ pub enum Policed {
 }
 
 // The meter's entry with its SMAX and RATE, the partition, and where the frame goes; its ports are none where drop 10 is due.
-#[derive(Drop)]
+#[derive(Clone, Copy)]
 pub struct Course {
     pub meter: usize,
     pub smax: u64,
@@ -31,7 +31,7 @@ pub struct Course {
 }
 
 // Dropped at 7 or 8, or the course of steps 9 to 11: what contracts say of a frame or a replica, and no function hands over.
-#[derive(Drop)]
+#[derive(Clone, Copy)]
 pub enum Planned {
     Dropped(u32),
     Goes(Course),

@@ -8,7 +8,7 @@ ghost use Rattle.ports.specs.Ports.{towards, wanted_of, mask_of, egress_ports, o
 use image::tables::Table;
 
 // What a sent frame gets: masks of ports with port 0 the lowest bit, and a queue for each of the five ports, 0 where it is not sent.
-#[derive(Drop)]
+#[derive(Clone, Copy)]
 pub struct Sending {
     pub ports: u64,
     pub vlan: u64,

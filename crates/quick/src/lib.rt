@@ -26,7 +26,7 @@ fn data_run(image: &mut [u32], load: Load, words: &[u32]) -> Load
 }
 
 // A load state after `count` words.
-#[derive(Drop)]
+#[derive(Clone, Copy)]
 pub struct Took {
     pub load: Load,
     pub count: usize,

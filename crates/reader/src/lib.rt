@@ -5,7 +5,7 @@ ghost use Rattle.records.specs.Answer.{Reads};
 
 use records::Record;
 
-#[derive(Drop)]
+#[derive(Clone, Copy)]
 pub struct Reader<'a> {
     pub list: &'a [u8],
     pub at: usize,

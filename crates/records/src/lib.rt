@@ -18,7 +18,7 @@ const FRAME_HEAD: usize = 12;
 const RELEASE_BYTES: usize = 2;
 
 // Why a list, or what is left of it, is not run.
-#[derive(Drop)]
+#[derive(Clone, Copy)]
 pub enum Refusal {
     Size,
     Mark,
@@ -28,7 +28,7 @@ pub enum Refusal {
 }
 
 // What a list opens with.
-#[derive(Drop)]
+#[derive(Clone, Copy)]
 enum Opening {
     // Records of this version follow.
     Records(u64),
@@ -36,7 +36,7 @@ enum Opening {
 }
 
 // What a record is, by its kind byte.
-#[derive(Drop)]
+#[derive(Clone, Copy)]
 enum Kind {
     Frame,
     Release,
@@ -44,7 +44,7 @@ enum Kind {
 }
 
 // What stands at a place of a list.
-#[derive(Drop)]
+#[derive(Clone, Copy)]
 pub enum Record {
     // The frame's bytes are the `count` bytes from `start` on; `next` is the place after the record.
     Frame {

@@ -16,7 +16,7 @@ use plan::Course;
 use ports::Sending;
 use spend::Meter;
 
-#[derive(Drop)]
+#[derive(Clone, Copy)]
 pub enum Verdict {
     Refused(u32),
     Drop(u32),
@@ -24,7 +24,7 @@ pub enum Verdict {
 }
 
 // One meter's credit and time, and one partition's units.
-#[derive(Drop)]
+#[derive(Clone, Copy)]
 pub struct Held {
     pub credit: u64,
     pub since: u64,
@@ -32,7 +32,7 @@ pub struct Held {
 }
 
 // The verdict, and the cells as it leaves them.
-#[derive(Drop)]
+#[derive(Clone, Copy)]
 pub struct Settled {
     pub verdict: Verdict,
     pub held: Held,

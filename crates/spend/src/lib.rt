@@ -8,7 +8,7 @@ const MILLIONTHS: u64 = 8000000;
 const STEP: u64 = 15625;
 
 // A meter: SMAX and RATE of its entry, its credit in millionths of a bit, and its time.
-#[derive(Drop)]
+#[derive(Clone, Copy)]
 pub struct Meter {
     pub smax: u64,
     pub rate: u64,
@@ -17,7 +17,7 @@ pub struct Meter {
 }
 
 // A verdict's number, 0 for sent, with the meter and the partition as it leaves them.
-#[derive(Drop)]
+#[derive(Clone, Copy)]
 pub struct Spent {
     pub drop: u32,
     pub credit: u64,
@@ -26,7 +26,7 @@ pub struct Spent {
 }
 
 // One port's counts.
-#[derive(Drop)]
+#[derive(Clone, Copy)]
 pub struct Counts {
     pub frames: u64,
     pub drops: u64,

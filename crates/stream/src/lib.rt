@@ -5,7 +5,7 @@ pub mod states;
 use image::tables::Table;
 
 // What a write or a whole load answers. Its number in document 01 is told by `numbered` in specs/.
-#[derive(Drop)]
+#[derive(Clone, Copy)]
 pub enum Answer {
     More,
     Loaded,
@@ -14,7 +14,7 @@ pub enum Answer {
 
 // What the next word is: word 0, which is also a load not yet begun; a block's two header words and their checksum; its data and their
 // checksum. Or the answer has been told.
-#[derive(Drop)]
+#[derive(Clone, Copy)]
 pub enum Phase {
     Device,
     Id,
@@ -25,14 +25,14 @@ pub enum Phase {
 }
 
 // What a block's header comes to: the number 3 to 6 that it is refused with, or its table.
-#[derive(Drop)]
+#[derive(Clone, Copy)]
 pub enum Header {
     Wrong(u32),
     Right(Table),
 }
 
 // A load under way: the phase, the block's table with the words placed and due, the two header words, and the running checksums.
-#[derive(Drop)]
+#[derive(Clone, Copy)]
 pub struct Load {
     pub phase: Phase,
     pub table: Table,

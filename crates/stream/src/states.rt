@@ -9,7 +9,7 @@ use crate::{Answer, Load, Phase};
 use image::tables::Table;
 
 // The answer and the load state that a write leaves.
-#[derive(Drop)]
+#[derive(Clone, Copy)]
 pub struct Wrote {
     pub answer: Answer,
     pub load: Load,

@@ -4,7 +4,7 @@ ghost use Rattle.std.specs.Float.{binary64};
 ghost use Rattle.std.specs.Float.Ieee.{of_int};
 ghost use Rattle.tile.specs.Tiles.{share_of, tile_of, bits_of};
 
-#[derive(Drop)]
+#[derive(Clone, Copy)]
 pub enum Tile {
     NotLoaded,
     NoFrames,
@@ -12,7 +12,7 @@ pub enum Tile {
 }
 
 // A tile, or the number of what refuses the call.
-#[derive(Drop)]
+#[derive(Clone, Copy)]
 pub enum Asked {
     Refused(u32),
     Shown(Tile),

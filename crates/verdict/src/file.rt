@@ -4,7 +4,7 @@ use stream::states::Wrote;
 use stream::{Answer, states};
 
 // What counting a file's bytes came to.
-#[derive(Drop)]
+#[derive(Clone, Copy)]
 enum Counted {
     Ended(u64),
     PastBudget,

@@ -12,7 +12,7 @@ use row::release::release;
 const MOST: usize = 16385;
 
 // How many bytes were read, and whether a read failed.
-#[derive(Drop)]
+#[derive(Clone, Copy)]
 struct Filled {
     count: usize,
     broken: bool,
