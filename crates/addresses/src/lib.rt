@@ -1,4 +1,6 @@
 // Entries of 05 for an address: one that bars a source from a port, and the one for a destination. Searched by groups, as 07 is in `lookup`.
+#![tactic(auto)]
+
 ghost use Rattle.std.specs.Prelude.{◌≡◌, cond, not, false, ◌+◌, ◌-◌, ◌%◌, ◌≤◌, ◌<◌, ltb, length};
 ghost use Rattle.image.specs.Layout.{Held, image_words, image_in, count_of};
 ghost use Rattle.image.specs.declared.tables.Table.TheVariants.{AddressLookup, LookupParameters};

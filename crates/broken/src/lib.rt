@@ -1,4 +1,6 @@
 // The tests of the loading rules after 20: is it broken? One pass each; 21, 22 and 28 share the one over 07. Their numbers and their order are said in `rules`.
+#![tactic(auto)]
+
 ghost use Rattle.std.specs.Prelude.{◌≡◌, ◌<◌, length};
 ghost use Rattle.image.specs.Layout.{Held, image_in, count_of};
 ghost use Rattle.image.specs.Sound.{Bounded};

@@ -1,5 +1,7 @@
 // CRC-32 of IEEE 802.3 over 32-bit words, each word's low byte first: the plain loops, which need no table and take one register.
 // The program loads with them alone. Two registers at once (crc_both) and runs by tables have their own crates.
+#![tactic(auto)]
+
 ghost use Rattle.std.specs.Prelude.{◌≡◌};
 ghost use Rattle.crc.specs.Crc.{bit, bits_out, word_in, finished};
 

@@ -1,4 +1,6 @@
 // Two registers at once, by the plain loops: the few words that a run by table leaves over go in here.
+#![tactic(auto)]
+
 ghost use Rattle.std.specs.Prelude.{◌≡◌};
 ghost use Rattle.crc.specs.Crc.{word_in, words_in};
 

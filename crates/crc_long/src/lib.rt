@@ -1,4 +1,6 @@
 // CRC-32 over long runs of words, by table, four words a turn. The caller makes the tables once, by crc_table, and lends them to every run.
+#![tactic(auto)]
+
 ghost use Rattle.std.specs.Prelude.{◌≡◌, [], ◌∷◌, ℕ, ◌+◌, ◌*◌};
 ghost use Rattle.crc.specs.Crc.{bits_out, words_in};
 ghost use Rattle.crc.specs.Four.{rest};

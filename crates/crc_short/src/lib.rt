@@ -6,6 +6,8 @@
 // The tables are one match, and a lookup is one load only where it has one caller in the whole program: hence the two little loops, over five
 // words and over a word's bytes. The compiler unrolls them and loads of each entry the one number that is kept. The order of the five words costs
 // least: in others two addresses more are made in each turn. The number is chosen in the loop itself: by a function of its own it is not unrolled.
+#![tactic(auto)]
+
 ghost use Rattle.std.specs.Prelude.{◌≡◌, [], ◌∷◌, ◌/◌, ◌%◌, ◌^◌};
 ghost use Rattle.crc.specs.Crc.{bits_out, words_in};
 ghost use Rattle.crc_short_bytes.specs.Twice.{twice};

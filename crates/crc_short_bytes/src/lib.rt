@@ -4,6 +4,8 @@
 // One match with all numbers of a byte is checked in a third of the time that one match for each number takes, and the compiler makes it the same
 // tables. It is inlined, and a lookup is then one load, only where it has one caller in the whole program. Two matches of half the arms would be
 // checked faster, but the compiler does not join them to one table.
+#![tactic(auto)]
+
 ghost use Rattle.std.specs.Prelude.{◌≡◌, ◌%◌};
 ghost use Rattle.crc.specs.Crc.{bits_out};
 ghost use Rattle.crc_short_bytes.specs.Twice.{twice};

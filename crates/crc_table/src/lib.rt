@@ -1,4 +1,6 @@
 // The tables of CRC-32 by four words a turn, one for each place of a word in the turn. Each is 4 KiB: make it once, and lend it to every run.
+#![tactic(auto)]
+
 mod entries;
 
 ghost use Rattle.crc_table.specs.Table.{IsTable};

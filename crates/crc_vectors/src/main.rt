@@ -1,5 +1,7 @@
 // Runs every CRC function over outside vectors and prints what each gives. The file stdout holds what other programs compute; vectors.py made it and says how.
 // The checksums that Linux's driver packed are met by loader_vectors, which loads its streams.
+#![tactic(auto)]
+
 use crc_both::Both;
 use libc::STDOUT_FILENO;
 

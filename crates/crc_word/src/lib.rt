@@ -2,6 +2,8 @@
 // A word's four lookups do not wait for each other, as those of the plain loop do. A word's bytes and the two registers take turns in loops,
 // since a lookup is one load only where the tables have one caller; the compiler unrolls both. It is for writes of one word; longer runs have
 // their own crates.
+#![tactic(auto)]
+
 ghost use Rattle.std.specs.Prelude.{◌≡◌};
 ghost use Rattle.crc.specs.Crc.{bits_out, word_in};
 

@@ -1,5 +1,7 @@
 // Verdicts, tiles and the answers of a ledger as numbers that C and Rust share: conversions alone. They call no judge and no ledger, so what
 // each kind is told as stands apart from what is judged.
+#![tactic(auto)]
+
 ghost use Rattle.std.specs.Prelude.{◌≡◌};
 ghost use Rattle.ledger.specs.Answers.{number_of};
 ghost use Rattle.flat_answers.specs.Answers.{flat_verdict, flat_shown, flat_tile};

@@ -1,5 +1,7 @@
 // A fresh ledger, a frame, a release and a tile over a lent row of numbers: each is one call and one conversion, and what the exports of
 // `tailbow_c` pass on to. Every row is a ledger: 39 judges it.
+#![tactic(auto)]
+
 ghost use Rattle.flat_frames.specs.Frames.{FreshensFlat, JudgesFlat, ReleasesFlat, TilesFlat};
 
 use flat_answers::{FlatTile, FlatVerdict};

@@ -1,5 +1,7 @@
 // What stands at a place of a frame list, as a struct of numbers that C and Rust share. `tailbow_record_at` passes on to `record_at`; it stands
 // apart from loads and frames, which it never calls.
+#![tactic(auto)]
+
 ghost use Rattle.std.specs.Prelude.{◌≡◌};
 ghost use Rattle.records.specs.Answer.{told};
 ghost use Rattle.flat_lists.specs.Lists.{flat_stands, RecordsFlat};

@@ -1,5 +1,7 @@
 // Loads by a lent load state of six numbers (`flat_states`), and whole loads with their answers as numbers: what the exports of `tailbow_c` pass
 // on to. Data of one block alone go in on the numbers themselves, every other write by the load state that they are.
+#![tactic(auto)]
+
 ghost use Rattle.std.specs.Prelude.{◌≡◌, [], ◌∷◌};
 ghost use Rattle.flat_loads.specs.Calls.{WritesFlat, LoadsWords, LoadsBytes};
 ghost use Rattle.flat_loads.specs.Data.{flat_place, Fits, Takes};

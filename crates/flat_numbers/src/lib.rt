@@ -3,6 +3,8 @@
 // upper half of the second number is no part of the state.
 // The phase is 0 for word 0, which is also a load not yet begun; 1, 2, 3 for a block's two header words and their checksum; 4 for its data
 // and their checksum; 5 once an answer has been told, which is `told`. The table is its place in the rows; outside phase 4 nothing reads it.
+#![tactic(auto)]
+
 ghost use Rattle.std.specs.Prelude.{◌≡◌, ◌<◌};
 ghost use Rattle.flat_numbers.specs.Flat.{low, high, joined, phase_number, told_in, kept, place_in, phase_of, is_load, number_of, FreshLoad};
 

@@ -1,5 +1,7 @@
 // A load state as the six lent numbers of `flat_numbers`, and back. The conversions stand alone, without a call of the loader's: nothing of a load is
 // needed to see that no number is lost.
+#![tactic(auto)]
+
 ghost use Rattle.std.specs.Prelude.{◌≡◌, ◌+◌, ◌^◌, ◌<◌, ◌≤◌, get_or};
 ghost use Rattle.flat_numbers.specs.Flat.{joined, table_in, load_in, stored_in, moved};
 

@@ -1,4 +1,6 @@
 // A frame's bytes: its addresses and its tag, and steps 1 to 3, which take it in.
+#![tactic(auto)]
+
 ghost use Rattle.std.specs.Prelude.{◌≡◌, ◌+◌, ◌*◌, ◌<◌, ◌≤◌, length};
 ghost use Rattle.image.specs.Layout.{image_in};
 ghost use Rattle.image.specs.Sound.{Sound};

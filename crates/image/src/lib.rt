@@ -1,5 +1,7 @@
 // The image in a lent buffer: its counts and its mark behind the entries, how they are read and written, and the test behind refusal 31.
 // No other crate knows where anything stands in it.
+#![tactic(auto)]
+
 pub mod tables;
 
 ghost use Rattle.std.specs.Prelude.{◌≡◌, ◌<◌, ◌≤◌, length, get_or};

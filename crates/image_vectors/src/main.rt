@@ -2,6 +2,8 @@
 // texts beside those streams give them; tests/vectors/fields.py made it and says how. The loader's steps put each stream into an image,
 // all but its last word, the global checksum: that word runs the rules, two of these streams break one, and a refusal leaves zeros. A stream that is refused
 // before is never printed, nor is one behind it.
+#![tactic(auto)]
+
 ghost use Rattle.image.specs.Layout.{Held};
 ghost use Rattle.image.specs.Sound.{Bounded};
 ghost use Rattle.image.specs.declared.tables.Table.TheVariants.{AddressLookup, Policing, VlanLookup, Forwarding, MacConfiguration, ForwardingParameters, Retagging};

@@ -1,5 +1,7 @@
 // One frame with its replicas: refused, dropped with the step's number, or sent; the row is lent and left as the last verdict leaves it, and each
 // replica's verdict is told in a lent place.
+#![tactic(auto)]
+
 ghost use Rattle.std.specs.Prelude.{◌≡◌, ◌<◌};
 ghost use Rattle.image.specs.Layout.{image_in, count_of};
 ghost use Rattle.image.specs.Sound.{Sound};

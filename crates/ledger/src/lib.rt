@@ -1,4 +1,6 @@
 // The ledger that is kept over a list of records: one row of numbers, lent to whoever brings it up to date. Where each part starts comes from this one list.
+#![tactic(auto)]
+
 pub mod range;
 
 pub const PARTITIONS: usize = 8;

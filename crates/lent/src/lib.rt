@@ -1,5 +1,7 @@
 // The ledger, lent by `&mut` and brought up to date by each record: one step by value for frames and releases, and the loan around it. The places of a
 // frame's replicas are lent beside it, and a release leaves them as found.
+#![tactic(auto)]
+
 ghost use Rattle.lent.specs.Brings.{Brings};
 
 use judge::{Judgement, judge};

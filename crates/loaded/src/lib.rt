@@ -1,4 +1,6 @@
 // The tests behind refusal 30, of an image in a lent buffer that is long enough: a count above its limit, rule 20, and an image that is not loaded.
+#![tactic(auto)]
+
 ghost use Rattle.std.specs.Prelude.{◌≡◌, not, ◌≤◌, eqb, length};
 ghost use Rattle.image.specs.Layout.{image_words, image_in, count_of};
 ghost use Rattle.image.specs.Loaded.{above, over_limit, incomplete, not_loaded};

@@ -1,4 +1,6 @@
 // A write, word by word: what the program loads with. No table of checksums stands below it, so that the program proves none; `quick` has the same write by tables.
+#![tactic(auto)]
+
 pub mod headers;
 
 ghost use Rattle.stream.specs.Fine.{Fine};

@@ -1,5 +1,7 @@
 // Loads each stream of standard input in every way and prints what each answers and leaves. The files stdin and stdout were made from the independent second
 // program alone: tests/cases/src/bin/loader_vectors.rs made them and says how.
+#![tactic(auto)]
+
 ghost use Rattle.std.specs.Prelude.{◌<◌, ◌≤◌};
 
 use crc_both::Both;

@@ -1,5 +1,7 @@
 // The search in 07, and what it shares with those in 05. Each asks a group of entries at once, so that they go side by side, whether one may be
 // what it looks for, and only such a group's one after the other.
+#![tactic(auto)]
+
 pub mod vlan;
 
 ghost use Rattle.std.specs.Prelude.{◌≡◌, not, ◌/◌, ◌^◌, ◌<◌, eqb};

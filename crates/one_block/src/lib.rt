@@ -1,5 +1,7 @@
 // Data of one block alone: where the words of a write go that brings nothing else, the copy of them, and the load state after them. Only loads from C
 // and Rust take data so.
+#![tactic(auto)]
+
 ghost use Rattle.std.specs.Prelude.{◌≡◌, ◌+◌, ◌<◌, ◌≤◌, length};
 ghost use Rattle.std.proofs.lemmas.List.Edits.{sets};
 ghost use Rattle.image.specs.Layout.{image_words};

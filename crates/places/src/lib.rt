@@ -1,4 +1,6 @@
 // A verdict in one of the lent places, as ten numbers: how a frame's call says its replicas' verdicts.
+#![tactic(auto)]
+
 ghost use Rattle.std.specs.Prelude.{◌≡◌, ◌+◌, ◌*◌, ◌<◌, ◌≤◌, length};
 ghost use Rattle.places.specs.Places.{head_of, ten, put_from, put_in};
 

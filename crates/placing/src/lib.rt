@@ -1,4 +1,6 @@
 // Where a block's data go, and what they come to: 7 and a table's count.
+#![tactic(auto)]
+
 pub mod refusal;
 
 ghost use Rattle.std.specs.Prelude.{◌≡◌, ◌+◌, ◌*◌, ◌/◌, ◌≤◌, length};

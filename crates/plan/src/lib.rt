@@ -1,5 +1,7 @@
 // Steps 7 and 8, and what steps 9 to 11 need of a frame that passes them: its meter, its partition, and the sending if it comes to that.
 // They read the image and the frame's numbers only, and can be run with any VLAN, place and priority.
+#![tactic(auto)]
+
 pub mod enter;
 
 ghost use Rattle.std.specs.Prelude.{◌≡◌, ◌<◌};

@@ -1,4 +1,6 @@
 // Where a frame is sent: its ports, its new priority, the ports that tag it, and its five queues. Image and frame only.
+#![tactic(auto)]
+
 ghost use Rattle.std.specs.Prelude.{◌≡◌, ◌+◌, ◌<◌, ◌≤◌};
 ghost use Rattle.image.specs.Layout.{image_in, count_of};
 ghost use Rattle.image.specs.Sound.{Sound};

@@ -1,4 +1,6 @@
 // The same write, with the data words that are due at once, by the short tables: what C is given. It stands apart from `loader`, since the program does without those tables.
+#![tactic(auto)]
+
 ghost use Rattle.std.specs.Prelude.{◌≡◌, ◌<◌, ◌≤◌, length};
 ghost use Rattle.image.specs.Layout.{image_words};
 ghost use Rattle.stream.specs.Fine.{Roomy, Fine};

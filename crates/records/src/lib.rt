@@ -1,4 +1,6 @@
 // The frame list: what stands at a place of it. Nothing is asked of a caller: any bytes are a list, and any number is a place.
+#![tactic(auto)]
+
 pub mod bytes;
 
 ghost use Rattle.std.specs.Prelude.{◌≡◌, ◌<◌, length};

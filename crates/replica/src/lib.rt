@@ -1,4 +1,6 @@
 // Replicas: a frame that steps 1 to 6 let in yields one for each entry of 12 that names its VLAN and port. A replica spends as a frame does and is noted nowhere.
+#![tactic(auto)]
+
 ghost use Rattle.std.specs.Prelude.{◌≡◌, ◌<◌, ◌≤◌, length};
 ghost use Rattle.image.specs.Layout.{Held, image_in};
 ghost use Rattle.image.specs.Sound.{Sound};

@@ -1,4 +1,6 @@
 // The loading rules, run one after the other up to the first that is broken.
+#![tactic(auto)]
+
 ghost use Rattle.std.specs.Prelude.{◌≡◌, false, cond};
 ghost use Rattle.image.specs.Layout.{image_in};
 ghost use Rattle.image.specs.Sound.{Bounded};

@@ -1,5 +1,7 @@
 // Steps 9 to 11: on the few numbers that a course concerns, and on the row, of which those are loaded and stored. What is noted of a frame
 // stands in `note`.
+#![tactic(auto)]
+
 pub mod note;
 
 ghost use Rattle.std.specs.Prelude.{◌≡◌, ◌<◌};

@@ -1,4 +1,6 @@
 // What a frame spends, on numbers: its meter's credit, its partition's unit, and its place in a port's counts. Steps 9, 10 and 11.
+#![tactic(auto)]
+
 ghost use Rattle.std.specs.Prelude.{◌≡◌, ◌+◌, ◌-◌, ◌*◌, ◌<◌, ◌≤◌, min};
 ghost use Rattle.spend.specs.Spend.{credit_at, paid_of, spent_of, counted_of};
 

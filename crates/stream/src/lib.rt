@@ -1,4 +1,6 @@
 // What loading is: the types of a load's state and answer. Their meaning stands in specs/, in the paper's form and in the machine's, with the bridge between them.
+#![tactic(auto)]
+
 pub mod bytes;
 pub mod states;
 

@@ -1,5 +1,7 @@
 // The entries for Rust and C: states, ledgers, verdicts, tiles and records as numbers, answers as numbers, buffers as pointer and length. Only
 // what this crate itself exports is in its archive, so all nine stand here. Each passes on to one leaf, whose promise is its own.
+#![tactic(auto)]
+
 ghost use Rattle.flat_numbers.specs.Flat.{FreshLoad};
 ghost use Rattle.flat_loads.specs.Calls.{WritesFlat, LoadsWords, LoadsBytes};
 ghost use Rattle.flat_frames.specs.Frames.{FreshensFlat, JudgesFlat, ReleasesFlat, TilesFlat};

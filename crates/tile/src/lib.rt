@@ -1,4 +1,6 @@
 // A port's tile: not-loaded, no-frames, or its shares of dropped frames and octets.
+#![tactic(auto)]
+
 ghost use Rattle.tile.specs.Tiles.{Tiled};
 
 use ledger::{CELLS, DROPPED, DROPS, FRAMES, OCTETS};

@@ -1,5 +1,7 @@
 // The verdict program: a stream's file is loaded, a list of records is walked, and what the switch does with each is printed.
 // It prints and nothing else: every number that it shows comes from the proved crates.
+#![tactic(auto)]
+
 mod file;
 mod list;
 mod print;

@@ -1,4 +1,6 @@
 // Whole loads, of words and of bytes. The long tables are made for them alone, so they stand apart from the writes.
+#![tactic(auto)]
+
 ghost use Rattle.std.specs.Prelude.{◌≡◌, ◌+◌, ◌<◌, ◌≤◌, length};
 ghost use Rattle.crc_long.specs.Turn.{AreTables};
 ghost use Rattle.image.specs.Layout.{image_words, cleared};

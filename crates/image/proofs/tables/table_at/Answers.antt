@@ -7,24 +7,10 @@ use Rattle.laws.specs.Scan.{Misses}
 use Rattle.laws.specs.ScanLaws.{misses_above}
 use Rattle.image.specs.Rows.{Row, rows, table_count, row_at, blank}
 use Rattle.image.specs.declared.tables.Table.TheVariants.{AddressLookup}
-use Rattle.image.proofs.tables.table_at.Statement.{statement}
-use Rattle.image.proofs.tables.table_at.Tie as tie
+use Rattle.image.proofs.tables.table_at.Goals as goal
 
 no_row : (k : ℕ) → Misses table_count k → AddressLookup ≡ (row_at k).table
 no_row k m = ap (λ (r : Row). r.table) (sym (get_or-eq_default rows blank {n = k} (misses_above table_count k m)))
 
-pub table_at_spec : {M : Type 1} → statement M
-table_at_spec =
-    tie.close
-    (tie.spec
-    (λ c. search rules)
-    (λ c. search rules)
-    (λ c. search rules)
-    (λ c. search rules)
-    (λ c. search rules)
-    (λ c. search rules)
-    (λ c. search rules)
-    (λ c. search rules)
-    (λ c. search rules)
-    (λ c. search rules)
-    (λ c. search (rules, no_row)))
+pub returns-in_default : goal.returns-in_default
+returns-in_default c = search (rules, no_row)
