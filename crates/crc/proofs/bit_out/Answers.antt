@@ -4,8 +4,7 @@ use Prim.Native.Nat.{ℕ, ◌/◌, ◌%◌}
 use native.Mathlib.Omega.{arith}
 use lib.Bits.{bit_xor}
 use Rattle.crc.specs.Crc.{bit}
-use Rattle.crc.proofs.bit_out.Statement.{statement}
-use Rattle.crc.proofs.bit_out.Tie as tie
+use Rattle.crc.proofs.bit_out.Goals as goal
 
 one : (r : ℕ) → r % 2 ≡ 1 → bit_xor 0xEDB8_8320 (r / 2) ≡ bit r
 unfolding bit
@@ -15,11 +14,8 @@ none : (r : ℕ) → r % 2 ≡ 0 → r / 2 ≡ bit r
 unfolding bit
 none r e = rw e
 
-returns : tie.Need-returns
-returns c = one _ c.if1.true
+pub returns-then-r-eq1 : goal.returns-then-r-eq1
+returns-then-r-eq1 c = one _ c.if-r-eq1.true
 
-returns_2 : tie.Need-returns-2
-returns_2 c = none _ (omega arith)
-
-pub bit_out_spec : {M : Type 1} → statement M
-bit_out_spec = tie.close (tie.spec returns returns_2)
+pub returns : goal.returns
+returns c = none _ (omega arith)
