@@ -8,8 +8,7 @@ use lib.Bits.{bit_xor, bit_and, xor_self, xor_lt, xor_add_and, and_le_l, and_le_
 use lib.Dec.{eqb}
 use borrow.Author.Tests.{eq-eqb, ne_eqb}
 use Rattle.laws.specs.Scan.{flag}
-use Rattle.lookup.proofs.apart.Statement.{statement}
-use Rattle.lookup.proofs.apart.Tie as tie
+use Rattle.lookup.proofs.apart.Goals as goal
 
 -- numbers that differ in no bit are equal
 alike : (a b : ℕ) → bit_xor a b ≡ 0 → a ≡ b
@@ -37,9 +36,8 @@ top a b la lb = decide (ℕ_discrete a b)
     decide (no ne) =
         some (bit_xor a b) (xor_lt 31 a b la lb) (λ z. ne (alike a b z)) ∙ sym (ap (λ (t : Bool). flag (not t)) (ne_eqb a b ne))
 
-pub apart_spec : {M : Type 1} → statement M
-apart_spec =
-    tie.close
-    (tie.spec
-    (λ c. let l : bit_xor c.args.a c.args.b < 2147483648 = xor_lt 31 _ _ c.requires.0 c.requires.1 in omega arith)
-    (λ c. top _ _ c.requires.0 c.requires.1))
+pub overflow_add-result : goal.overflow_add-result
+overflow_add-result c = let l : bit_xor c.args.a c.args.b < 2147483648 = xor_lt 31 _ _ c.requires.0 c.requires.1 in omega arith
+
+pub returns : goal.returns
+returns c = top _ _ c.requires.0 c.requires.1

@@ -2,12 +2,8 @@
 use mathlib.Core.Path.{refl}
 use Rattle.crc.specs.Crc.{bit, bits_out}
 use Rattle.crc_table.specs.TestLaws.{is_table}
-use Rattle.crc_table.proofs.second.Statement.{statement}
-use Rattle.crc_table.proofs.second.Tie as tie
+use Rattle.crc_table.proofs.second.Goals as goal
 
-returns : tie.Need-returns
+pub returns : goal.returns
 unfolding bit bits_out
 returns c = is_table 2 _ tt refl
-
-pub second_spec : {M : Type 1} → statement M
-second_spec = tie.close (tie.spec returns)

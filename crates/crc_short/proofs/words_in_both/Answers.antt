@@ -1,0 +1,18 @@
+use mathlib.Core.Path.{◌≡◌}
+use Prim.Native.Nat.{◌-◌, ◌≤◌}
+use lib.ListN.{length, drop}
+use Rattle.crc.specs.Crc.{words_in}
+use Rattle.crc.specs.FourLaws.{turn_more}
+use Rattle.crc.specs.Laws.{words_in_rest}
+use borrow.Author.Rules.{rules}
+use Rattle.crc_short.proofs.words_in_both.Goals as goal
+
+pub loop-i-preserved : goal.loop-i-preserved
+loop-i-preserved c = (
+  search rules,
+  turn_more _ _ _ c.args.words.now c.loop-i.i c.loop-i-test.true c.turn-x.ensures.0 c.loop-i.invariant.1,
+  turn_more _ _ _ c.args.words.now c.loop-i.i c.loop-i-test.true c.turn-x.ensures.1 c.loop-i.invariant.2,
+)
+
+pub returns : goal.returns
+returns c = search (rules, words_in_rest)
