@@ -2,8 +2,7 @@
 use Rattle.std.proofs.Common.{◌≡◌, ℕ, Bool, true, false, cond, ltb, sym, refl, ap, ◌∙◌, zero-le, pos_of_ne-zero, rules, le-ltb}
 use Rattle.laws.specs.Chain.{chain, hit_lt}
 use Rattle.ledger.specs.Range.{octets_off, counts_off}
-use Rattle.ledger.proofs.range.counts_off.Statement.{statement}
-use Rattle.ledger.proofs.range.counts_off.Tie as tie
+use Rattle.ledger.proofs.range.counts_off.Goals as goal
 
 -- of no frames any octets are too many
 none_have : (octets : ℕ) → octets_off 0 octets ≡ ltb 0 octets
@@ -36,16 +35,23 @@ module _ (frames drops octets dropped : ℕ) (f : frames ≡ 0) where
         both true = refl
         both false = refl
 
-pub counts_off_spec : {M : Type 1} → statement M
-counts_off_spec =
-    tie.close
-    (tie.spec
-    (λ c. search (rules, with_drops))
-    (λ c. search (rules, with_octets))
-    (λ c. search (rules, no_octets))
-    (λ c. search chain depth 40)
-    (λ c κs. tt)
-    (λ c. search chain depth 40)
-    (λ c κs. tt)
-    (λ c. search chain depth 40)
-    (λ c. search chain depth 40))
+pub returns-then-drops-ne0 : goal.returns-then-drops-ne0
+returns-then-drops-ne0 c = search (rules, with_drops)
+
+pub returns-then-octets-ne0 : goal.returns-then-octets-ne0
+returns-then-octets-ne0 c = search (rules, with_octets)
+
+pub returns-then-frames-eq0 : goal.returns-then-frames-eq0
+returns-then-frames-eq0 c = search (rules, no_octets)
+
+pub returns-then-frames-drops : goal.returns-then-frames-drops
+returns-then-frames-drops c = search chain depth 40
+
+pub returns-then-octets_off : goal.returns-then-octets_off
+returns-then-octets_off c = search chain depth 40
+
+pub returns-then-octets_off-2 : goal.returns-then-octets_off-2
+returns-then-octets_off-2 c = search chain depth 40
+
+pub returns : goal.returns
+returns c = search chain depth 40

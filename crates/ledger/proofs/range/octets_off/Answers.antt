@@ -2,8 +2,7 @@
 use Rattle.std.proofs.Common.{◌≡◌, ℕ, ◌+◌, ◌*◌, ◌/◌, ◌%◌, ◌^◌, ◌<◌, ◌≤◌, Bool, true, false, cond, ltb, sym, refl, ◌∙◌, arith, rules, ltb-false, ltb-true, le-ltb, lt-ltb}
 use Rattle.laws.specs.Chain.{hit_lt, pass_lt, together}
 use Rattle.ledger.specs.Range.{octets_off}
-use Rattle.ledger.proofs.range.octets_off.Statement.{statement}
-use Rattle.ledger.proofs.range.octets_off.Tie as tie
+use Rattle.ledger.proofs.range.octets_off.Goals as goal
 
 module _ (count octets : ℕ) (fits : octets < 2 ^ 64) where
   many : 4499205871636476 < count → ltb (octets / 4) count ≡ octets_off count octets
@@ -24,12 +23,8 @@ module _ (count octets : ℕ) (fits : octets < 2 ^ 64) where
           let l : 4 * count ≤ octets = ltb-false _ _ (sym p) in
           pass_lt octets (4 * count) _ _ _ l (together (4096 * count) left (4100 * count) octets (λ r. omega arith) (λ r. omega arith))
 
-pub octets_off_spec : {M : Type 1} → statement M
-octets_off_spec =
-    tie.close
-    (tie.spec
-    (λ c. search (rules, many))
-    (λ c. omega arith)
-    (λ c. omega arith)
-    (λ c κs. tt)
-    (λ c. search (rules, few)))
+pub returns-then-count-gt-MANY : goal.returns-then-count-gt-MANY
+returns-then-count-gt-MANY c = search (rules, many)
+
+pub returns : goal.returns
+returns c = search (rules, few)

@@ -7,8 +7,7 @@ use native.Mathlib.Omega.{arith}
 use lib.ListN.{get_or}
 use borrow.Author.Rules.{rules}
 use Rattle.frame.specs.Bytes.{mac_at, pair_at}
-use Rattle.frame.proofs.mac_at.Statement.{statement}
-use Rattle.frame.proofs.mac_at.Tie as tie
+use Rattle.frame.proofs.mac_at.Goals as goal
 
 six : (p q r a b c d e f : ℕ) → p ≡ a * 256 + b → q ≡ c * 256 + d → r ≡ e * 256 + f
     → p * 0x100000000 + q * 0x10000 + r ≡ a * 0x10000000000 + b * 0x100000000 + c * 0x1000000 + d * 0x10000 + e * 0x100 + f
@@ -22,19 +21,6 @@ pairs l at p q r x y z =
     (y ∙ ap (λ (i : ℕ). get_or l (at + 2) 0 * 256 + get_or l i 0) (add_assoc at 2 1))
     (z ∙ ap (λ (i : ℕ). get_or l (at + 4) 0 * 256 + get_or l i 0) (add_assoc at 4 1))
 
-pub mac_at_spec : {M : Type 1} → statement M
-mac_at_spec =
-    tie.close
-    (tie.spec
-    (λ c κs. search rules)
-    (λ c. search rules)
-    (λ c. search rules)
-    (λ c κs. search rules)
-    (λ c. search rules)
-    (λ c. search rules)
-    (λ c. search rules)
-    (λ c κs. search rules)
-    (λ c. search rules)
-    (λ c.
-    let s = c.before.before.before.before.args in
-    pairs s.frame.now s.at _ _ _ c.before.before.pair-at.ensures.0 c.before.pair-at2.ensures.0 c.pair-at3.ensures.0))
+pub returns : goal.returns
+returns c = let s = c.args in
+    pairs s.frame.now s.at _ _ _ c.pair_at.ensures.0 c.pair_at-2.ensures.0 c.pair_at-3.ensures.0

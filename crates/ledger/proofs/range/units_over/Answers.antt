@@ -1,0 +1,17 @@
+use Rattle.std.proofs.Common.{◌-◌, ◌≤◌, ltb, arith, rules}
+use Rattle.laws.specs.Scan.{some_below}
+use Rattle.image.specs.Layout.{image_in}
+use Rattle.fields.specs.Fields.{part_spc}
+use Rattle.ledger.specs.Row.{units, cell}
+use Rattle.ledger.specs.Above.{Tells}
+use Rattle.ledger.specs.AboveLaws.{tells_none, tells_of, tells_more, tells_end}
+use Rattle.ledger.proofs.range.units_over.Goals as goal
+
+pub loop-j-init : goal.loop-j-init
+loop-j-init c = (search rules, tells_none _)
+
+pub loop-j-preserved : goal.loop-j-preserved
+loop-j-preserved c = (search rules, search (rules, tells_more, tells_of))
+
+pub returns : goal.returns
+returns c = search tells_end
