@@ -4,6 +4,7 @@
 // before is never printed, nor is one behind it.
 #![tactic(auto)]
 
+ghost use Rattle.std.specs.Prelude.{◌≤◌, length, IfOk};
 ghost use Rattle.image.specs.Layout.{Held};
 ghost use Rattle.image.specs.Sound.{Bounded};
 ghost use Rattle.image.specs.declared.tables.Table.TheVariants.{AddressLookup, Policing, VlanLookup, Forwarding, MacConfiguration, ForwardingParameters, Retagging};
@@ -11,196 +12,196 @@ ghost use Rattle.image.specs.declared.tables.Table.TheVariants.{AddressLookup, P
 use fields::{address, forwarding, mac, parameters, policing, retagging, vlan};
 use image::tables::{TABLES, Table};
 use image::{IMAGE_WORDS, count, tables};
-use libc::{STDIN_FILENO, STDOUT_FILENO};
+use std::io;
+use std::io::{BufWriter, Read, Write};
 use stream::bytes::word_at;
 use stream::{Phase, states};
 
-fn put(character: u8) {
-    let text = [character];
-    io::write_all(STDOUT_FILENO, &text);
-}
-
-fn print(value: u64) {
-    put(b' ');
-    io::print_decimal(STDOUT_FILENO, value);
-}
-
-// A line's start: the two characters of a table's ID and the entry's number.
-fn begin(high: u8, low: u8, i: usize) {
-    put(high);
-    put(low);
-    print(i as u64);
-}
-
-fn print_address(image: &[u32], i: usize)
+fn print_address<W: Write>(out: &mut W, image: &[u32], i: usize) -> io::Result<()>
     requires { Held AddressLookup i image.now }
 {
-    begin(b'0', b'5', i);
-    print(address::vlanid(image, i));
-    put(b' ');
-    io::print_hex(STDOUT_FILENO, address::macaddr(image, i), 12);
-    print(address::destports(image, i));
-    print(address::enfport(image, i));
-    print(address::index(image, i));
+    let vlanid = address::vlanid(image, i);
+    let macaddr = address::macaddr(image, i);
+    let destports = address::destports(image, i);
+    let enfport = address::enfport(image, i);
+    let index = address::index(image, i);
+    writeln!(
+        out,
+        "05 {i} {vlanid} {macaddr:012x} {destports} {enfport} {index}"
+    )
 }
 
-fn print_policing(image: &[u32], i: usize)
+fn print_policing<W: Write>(out: &mut W, image: &[u32], i: usize) -> io::Result<()>
     requires { Held Policing i image.now }
 {
-    begin(b'0', b'6', i);
-    print(policing::sharindx(image, i));
-    print(policing::smax(image, i));
-    print(policing::rate(image, i));
-    print(policing::maxlen(image, i));
-    print(policing::partition(image, i));
+    let sharindx = policing::sharindx(image, i);
+    let smax = policing::smax(image, i);
+    let rate = policing::rate(image, i);
+    let maxlen = policing::maxlen(image, i);
+    let partition = policing::partition(image, i);
+    writeln!(out, "06 {i} {sharindx} {smax} {rate} {maxlen} {partition}")
 }
 
-fn print_vlan(image: &[u32], i: usize)
+fn print_vlan<W: Write>(out: &mut W, image: &[u32], i: usize) -> io::Result<()>
     requires { Held VlanLookup i image.now }
 {
-    begin(b'0', b'7', i);
-    print(vlan::vmemb_port(image, i));
-    print(vlan::vlan_bc(image, i));
-    print(vlan::tag_port(image, i));
-    print(vlan::vlanid(image, i));
+    let vmemb_port = vlan::vmemb_port(image, i);
+    let vlan_bc = vlan::vlan_bc(image, i);
+    let tag_port = vlan::tag_port(image, i);
+    let vlanid = vlan::vlanid(image, i);
+    writeln!(out, "07 {i} {vmemb_port} {vlan_bc} {tag_port} {vlanid}")
 }
 
-fn print_forwarding(image: &[u32], i: usize)
+fn print_forwarding<W: Write>(out: &mut W, image: &[u32], i: usize) -> io::Result<()>
     requires { Held Forwarding i image.now }
 {
-    begin(b'0', b'8', i);
-    print(forwarding::bc_domain(image, i));
-    print(forwarding::reach_port(image, i));
-    print(forwarding::fl_domain(image, i));
-    let mut j = 0;
-    while j < 8 {
-        print(forwarding::vlan_pmap(image, i, j));
-        j += 1;
+    let bc_domain = forwarding::bc_domain(image, i);
+    let reach_port = forwarding::reach_port(image, i);
+    let fl_domain = forwarding::fl_domain(image, i);
+    write!(out, "08 {i} {bc_domain} {reach_port} {fl_domain}")?;
+    for j in 0..8 {
+        let vlan_pmap = forwarding::vlan_pmap(image, i, j);
+        write!(out, " {vlan_pmap}")?;
     }
+    writeln!(out)
 }
 
-fn print_mac(image: &[u32], i: usize)
+fn print_mac<W: Write>(out: &mut W, image: &[u32], i: usize) -> io::Result<()>
     requires { Held MacConfiguration i image.now }
 {
-    begin(b'0', b'9', i);
-    print(mac::vlanprio(image, i));
-    print(mac::vlanid(image, i));
-    print(mac::drpuntag(image, i));
-    print(mac::egress(image, i));
-    print(mac::ingress(image, i));
+    let vlanprio = mac::vlanprio(image, i);
+    let vlanid = mac::vlanid(image, i);
+    let drpuntag = mac::drpuntag(image, i);
+    let egress = mac::egress(image, i);
+    let ingress = mac::ingress(image, i);
+    writeln!(
+        out,
+        "09 {i} {vlanprio} {vlanid} {drpuntag} {egress} {ingress}"
+    )
 }
 
-fn print_spaces(image: &[u32])
+fn print_spaces<W: Write>(out: &mut W, image: &[u32]) -> io::Result<()>
     requires { Held ForwardingParameters 0 image.now }
 {
-    begin(b'0', b'E', 0);
-    let mut j = 0;
-    while j < 8 {
-        print(parameters::part_spc(image, j));
-        j += 1;
+    write!(out, "0E 0")?;
+    for j in 0..8 {
+        let part_spc = parameters::part_spc(image, j);
+        write!(out, " {part_spc}")?;
     }
+    writeln!(out)
 }
 
-fn print_retagging(image: &[u32], i: usize)
+fn print_retagging<W: Write>(out: &mut W, image: &[u32], i: usize) -> io::Result<()>
     requires { Held Retagging i image.now }
 {
-    begin(b'1', b'2', i);
-    print(retagging::ing_port(image, i));
-    print(retagging::vlan_ing(image, i));
-    print(retagging::vlan_egr(image, i));
+    let ing_port = retagging::ing_port(image, i);
+    let vlan_ing = retagging::vlan_ing(image, i);
+    let vlan_egr = retagging::vlan_egr(image, i);
+    writeln!(out, "12 {i} {ing_port} {vlan_ing} {vlan_egr}")
 }
 
 // Entry i of a table; 11 and 4E have no field in use.
-fn print_entry(image: &[u32], table: Table, i: usize)
+fn print_entry<W: Write>(out: &mut W, image: &[u32], table: Table, i: usize) -> io::Result<()>
     requires { Held table i image.now }
 {
     match table {
-        Table::AddressLookup => print_address(image, i),
-        Table::Policing => print_policing(image, i),
-        Table::VlanLookup => print_vlan(image, i),
-        Table::Forwarding => print_forwarding(image, i),
-        Table::MacConfiguration => print_mac(image, i),
+        Table::AddressLookup => print_address(out, image, i),
+        Table::Policing => print_policing(out, image, i),
+        Table::VlanLookup => print_vlan(out, image, i),
+        Table::Forwarding => print_forwarding(out, image, i),
+        Table::MacConfiguration => print_mac(out, image, i),
         Table::LookupParameters => {
-            begin(b'0', b'D', i);
-            print(parameters::shared_learn(image));
+            let shared_learn = parameters::shared_learn(image);
+            writeln!(out, "0D {i} {shared_learn}")
         }
-        Table::ForwardingParameters => print_spaces(image),
-        Table::GeneralParameters => begin(b'1', b'1', i),
-        Table::XmiiModeParameters => begin(b'4', b'E', i),
-        Table::Retagging => print_retagging(image, i),
+        Table::ForwardingParameters => print_spaces(out, image),
+        Table::GeneralParameters => writeln!(out, "11 {i}"),
+        Table::XmiiModeParameters => writeln!(out, "4E {i}"),
+        Table::Retagging => print_retagging(out, image, i),
     }
 }
 
 // The reader of 0D is asked where the table is absent too: there SHARED_LEARN is clear.
-fn print_absent(image: &[u32], table: Table)
+fn print_absent<W: Write>(out: &mut W, image: &[u32], table: Table) -> io::Result<()>
     requires { Bounded image.now }
 {
     if let Table::LookupParameters = table {
-        io::write_all(STDOUT_FILENO, b"0D absent");
-        print(parameters::shared_learn(image));
-        put(b'\n');
+        let shared_learn = parameters::shared_learn(image);
+        writeln!(out, "0D absent {shared_learn}")?;
     }
+    Ok(())
 }
 
-// Table by table and entry by entry in one loop: two would take longer to prove.
-fn print_image(image: &[u32])
+// Table by table and entry by entry.
+fn print_image<W: Write>(out: &mut W, image: &[u32]) -> io::Result<()>
     requires { Bounded image.now }
 {
-    let mut k = 0;
-    let mut i = 0;
-    while k < TABLES {
+    for k in 0..TABLES {
         let table = tables::table_at(k);
-        if i < count(image, table) {
-            print_entry(image, table, i);
-            put(b'\n');
-            i += 1;
-        } else {
-            if i == 0 {
-                print_absent(image, table);
-            }
-            k += 1;
-            i = 0;
+        let entries = count(image, table);
+        for i in 0..entries {
+            print_entry(out, image, table, i)?;
+        }
+        if entries == 0 {
+            print_absent(out, image, table)?;
         }
     }
+    Ok(())
 }
 
 // What is printed before a word is sent: a stream's first word, and where its last is next, the image. The end block has length 0, and its third word is the
 // last. The answer is whether this word is.
-fn print_before(image: &[u32], phase: Phase, second: u32, word: u32) -> bool
+fn print_before<W: Write>(
+    out: &mut W,
+    image: &[u32],
+    phase: Phase,
+    second: u32,
+    word: u32,
+) -> io::Result<bool>
     requires { Bounded image.now }
 {
     match phase {
-        Phase::Device => {
-            io::write_all(STDOUT_FILENO, b"device ");
-            io::print_hex(STDOUT_FILENO, word as u64, 8);
-            put(b'\n');
-        }
+        Phase::Device => writeln!(out, "device {word:08x}")?,
         Phase::Sum => {
             if second % 16777216 == 0 {
-                print_image(image);
-                return true;
+                print_image(out, image)?;
+                return Ok(true);
             }
         }
         _ => {}
     }
-    false
+    Ok(false)
 }
 
-fn main() {
-    let mut bytes = io::large_buffer();
-    let n = io::read_full(STDIN_FILENO, &mut bytes);
+// Reads until buf is full or the input ends. The answer is how many bytes came.
+fn read_full<R: Read>(input: &mut R, buf: &mut [u8]) -> io::Result<usize>
+    ensures { IfOk result (λ n. n ≤ length buf.new) }
+{
+    let mut done = 0;
+    while done < buf.len() {
+        let n = input.read(&mut buf[done..])?;
+        if n == 0 {
+            break;
+        }
+        done += n;
+    }
+    Ok(done)
+}
+
+fn main(rt: HostRuntime) -> io::Result<()> {
+    let mut bytes = [0u8; 65536];
+    let n = read_full(&mut rt.reader(), &mut bytes)?;
+    let mut out = BufWriter::new(rt.alloc(), io::writer(&rt))?;
     let mut image = [0u32; IMAGE_WORDS];
     let mut load = states::fresh();
-    let mut at = 0;
-    while at + 4 <= n {
-        let word = word_at(&bytes, at);
-        let phase = load.phase;
-        if print_before(&image, phase, load.second, word) {
+    for i in 0..n / 4 {
+        let word = word_at(&bytes, 4 * i);
+        if print_before(&mut out, &image, load.phase, load.second, word)? {
             image = [0u32; IMAGE_WORDS];
             load = states::fresh();
         } else {
             load = loader::step(&mut image, load, word);
         }
-        at += 4;
     }
+    out.flush()
 }
