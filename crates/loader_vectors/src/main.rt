@@ -2,11 +2,12 @@
 // program alone: tests/cases/src/bin/loader_vectors.rs made them and says how.
 #![tactic(auto)]
 
-ghost use Rattle.std.specs.Prelude.{◌<◌, ◌≤◌};
+ghost use Rattle.std.specs.Prelude.{◌<◌, ◌≤◌, length, IfOk};
 
 use crc_both::Both;
 use image::IMAGE_WORDS;
-use libc::{STDIN_FILENO, STDOUT_FILENO};
+use std::io;
+use std::io::{BufWriter, Read, Write};
 use stream::bytes::word_at;
 use stream::states::Wrote;
 use stream::{Answer, Load, states};
@@ -17,38 +18,36 @@ const BUFFER: usize = IMAGE_WORDS + 4;
 // What the buffer holds before a load, in each word.
 const FOUND: u32 = 0xA5A5_A5A5;
 
-// False where it could not be written, which the comparison of the output shows.
-fn print_answer(answer: Answer) -> bool {
+fn print_answer<W: Write>(out: &mut W, answer: Answer) -> io::Result<()> {
     match answer {
-        Answer::More => io::write_all(STDOUT_FILENO, b"more"),
-        Answer::Loaded => io::print_decimal(STDOUT_FILENO, 0),
-        Answer::Refused(n) => io::print_decimal(STDOUT_FILENO, n as u64),
+        Answer::More => write!(out, "more"),
+        Answer::Loaded => write!(out, "0"),
+        Answer::Refused(n) => write!(out, "{n}"),
     }
 }
 
 // The answer, and the checksum of the whole buffer: the image and four words behind it.
-fn report(way: &[u8], answer: Answer, buffer: &[u32]) {
-    io::write_all(STDOUT_FILENO, way);
-    print_answer(answer);
-    io::write_all(STDOUT_FILENO, b" ");
+fn report<W: Write>(out: &mut W, way: &str, answer: Answer, buffer: &[u32]) -> io::Result<()> {
     let from_start = Both {
         block: crc::START,
         stream: crc::START,
     };
     let sum = crc::finish(crc_both::words_in_both(from_start, buffer).block);
-    io::print_hex(STDOUT_FILENO, sum as u64, 8);
+    write!(out, " {way} ")?;
+    print_answer(out, answer)?;
+    write!(out, " {sum:08x}")
 }
 
-fn by_bytes(bytes: &[u8]) {
+fn by_bytes<W: Write>(out: &mut W, bytes: &[u8]) -> io::Result<()> {
     let mut buffer = [FOUND; BUFFER];
     let answer = whole::load_bytes(&mut buffer, bytes);
-    report(b" bytes ", answer, &buffer);
+    report(out, "bytes", answer, &buffer)
 }
 
-fn by_words(words: &[u32]) {
+fn by_words<W: Write>(out: &mut W, words: &[u32]) -> io::Result<()> {
     let mut buffer = [FOUND; BUFFER];
     let answer = whole::load_words(&mut buffer, words);
-    report(b" words ", answer, &buffer);
+    report(out, "words", answer, &buffer)
 }
 
 fn least(a: usize, b: usize) -> usize
@@ -83,81 +82,95 @@ fn in_writes(buffer: &mut [u32], words: &[u32], most: usize) -> Answer
     answer
 }
 
-fn by_writes(way: &[u8], words: &[u32], most: usize)
+fn by_writes<W: Write>(out: &mut W, way: &str, words: &[u32], most: usize) -> io::Result<()>
     requires { 0 < most }
 {
     let mut buffer = [FOUND; BUFFER];
     let answer = in_writes(&mut buffer, words, most);
-    report(way, answer, &buffer);
+    report(out, way, answer, &buffer)
 }
 
 // The ways that take words. A write of 65 is refused, and what follows it goes on.
-fn in_words(words: &[u32]) {
-    by_words(words);
-    by_writes(b" by 1 ", words, 1);
-    by_writes(b" by 7 ", words, 7);
-    by_writes(b" by 64 ", words, 64);
-    by_writes(b" by 65 ", words, 65);
+fn in_words<W: Write>(out: &mut W, words: &[u32]) -> io::Result<()> {
+    by_words(out, words)?;
+    by_writes(out, "by 1", words, 1)?;
+    by_writes(out, "by 7", words, 7)?;
+    by_writes(out, "by 64", words, 64)?;
+    by_writes(out, "by 65", words, 65)
 }
 
 // Bytes as words; no stream here is longer than 16,384 of them.
-fn as_words(bytes: &[u8]) {
+fn as_words<W: Write>(out: &mut W, bytes: &[u8]) -> io::Result<()> {
     let mut words = [0u32; 16384];
     let n = bytes.len() / 4;
     if 16384 < n {
-        return;
+        return Ok(());
     }
-    let mut i = 0;
-    while i < n {
+    for i in 0..n {
         words[i] = word_at(bytes, 4 * i);
-        i += 1;
     }
-    in_words(&words[..n]);
+    in_words(out, &words[..n])
 }
 
 // One stream in every way.
-fn run(bytes: &[u8]) {
-    by_bytes(bytes);
+fn run<W: Write>(out: &mut W, bytes: &[u8]) -> io::Result<()> {
+    by_bytes(out, bytes)?;
     if bytes.len() % 4 == 0 {
-        as_words(bytes);
+        as_words(out, bytes)?;
     }
+    Ok(())
 }
 
-// The next n bytes of standard input, at the buffer's start. The answer is how many came.
-fn fill(buffer: &mut [u8], n: usize) -> usize {
-    if buffer.len() < n {
-        return 0;
+// Reads until buf is full or the input ends. The answer is how many bytes came.
+fn read_full<R: Read>(input: &mut R, buf: &mut [u8]) -> io::Result<usize>
+    ensures { IfOk result (λ n. n ≤ length buf.new) }
+{
+    let mut done = 0;
+    while done < buf.len() {
+        let n = input.read(&mut buf[done..])?;
+        if n == 0 {
+            break;
+        }
+        done += n;
     }
-    io::read_full(STDIN_FILENO, &mut buffer[..n])
+    Ok(done)
+}
+
+// The next n bytes of the input, at the buffer's start. The answer is how many came.
+fn fill<R: Read>(input: &mut R, buffer: &mut [u8], n: usize) -> io::Result<usize>
+    ensures { IfOk result (λ came. came ≤ length buffer.new) }
+{
+    if buffer.len() < n {
+        return Ok(0);
+    }
+    read_full(input, &mut buffer[..n])
 }
 
 // One case: a name of 32 bytes, a length, the stream. False where there is none.
-fn next() -> bool {
+fn next<R: Read, W: Write>(input: &mut R, out: &mut W) -> io::Result<bool> {
     let mut name = [0u8; 32];
-    if io::read_full(STDIN_FILENO, &mut name) < 32 {
-        return false;
+    if read_full(input, &mut name)? < 32 {
+        return Ok(false);
     }
     let mut size = [0u8; 4];
-    if io::read_full(STDIN_FILENO, &mut size) < 4 {
-        return false;
+    if read_full(input, &mut size)? < 4 {
+        return Ok(false);
     }
-    let mut buffer = io::large_buffer();
-    let n = fill(&mut buffer, word_at(&size, 0) as usize);
-    if 65536 < n {
-        return false;
-    }
-    io::write_all(STDOUT_FILENO, &name);
-    run(&buffer[..n]);
-    io::write_all(STDOUT_FILENO, b"\n");
-    true
+    let mut buffer = [0u8; 65536];
+    let n = fill(input, &mut buffer, word_at(&size, 0) as usize)?;
+    out.write_all(&name)?;
+    run(out, &buffer[..n])?;
+    writeln!(out)?;
+    Ok(true)
 }
 
-fn main() {
-    let mut turns: usize = 0;
-    while turns < 4096 {
-        if !next() {
-            return;
+fn main(rt: HostRuntime) -> io::Result<()> {
+    let mut input = rt.reader();
+    let mut out = BufWriter::new(rt.alloc(), io::writer(&rt))?;
+    for _ in 0..4096 {
+        if !next(&mut input, &mut out)? {
+            break;
         }
-        turns += 1;
     }
+    out.flush()
 }

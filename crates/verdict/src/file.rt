@@ -1,4 +1,8 @@
 // The stream's file: counted first, then sent in writes.
+use crate::list::fill;
+use std::fs;
+use std::io::Read;
+use std::rt::Files;
 use stream::bytes::word_at;
 use stream::states::Wrote;
 use stream::{Answer, states};
@@ -15,59 +19,48 @@ enum Counted {
 const BUDGET: u64 = 4294967296;
 
 // Counts what is left of a file.
-fn count_bytes(fd: i32) -> Counted {
-    let mut buf = io::large_buffer();
+fn count_bytes<R: Read>(file: &mut R) -> Counted {
+    let mut buf = [0u8; 65536];
     let mut bytes: u64 = 0;
     while bytes <= BUDGET {
-        let got = libc::read(fd, &mut buf);
-        if got < 0 {
-            return Counted::Unreadable;
+        match file.read(&mut buf) {
+            Ok(0) => return Counted::Ended(bytes),
+            Ok(n) => bytes += n as u64,
+            Err(_) => return Counted::Unreadable,
         }
-        let n = io::count(got, &buf);
-        if n == 0 {
-            return Counted::Ended(bytes);
-        }
-        bytes += n as u64;
     }
     Counted::PastBudget
+}
+
+// Opens a file, counts it and closes it.
+fn count<R: Files>(files: &R, path: &str) -> Counted {
+    match fs::open(files, path) {
+        Ok(mut file) => count_bytes(&mut file),
+        Err(_) => Counted::Unreadable,
+    }
 }
 
 // More bytes than a stream can need before it is answered: 32,374 words.
 const MOST: usize = 131072;
 
-// Made by a call: where an array is made, the prover counts its zeros one by one.
-fn room() -> [u8; MOST] {
-    [0u8; MOST]
-}
-
 // What is left of a file, a word a write. An answer that was told is repeated, so the last one counts.
-fn send(fd: i32, image: &mut [u32]) -> Answer {
-    let mut bytes = room();
-    let n = io::read_full(fd, &mut bytes);
+fn send<R: Read>(file: &mut R, image: &mut [u32]) -> Answer {
+    let mut bytes = [0u8; MOST];
+    let words = fill(file, &mut bytes).count / 4;
     let mut wrote = Wrote {
         load: states::fresh(),
         answer: Answer::More,
     };
-    let mut at: usize = 0;
-    while 4 <= n - at {
-        wrote = loader::write(image, wrote.load, &[word_at(&bytes, at)]);
-        at += 4;
+    for i in 0..words {
+        wrote = loader::write(image, wrote.load, &[word_at(&bytes, 4 * i)]);
     }
     wrote.answer
 }
 
 // The number of a stream's file: 10 where it cannot be opened or read, then 9, then 10 where it is empty or its words end at "more", or the writes' answer.
-pub fn load(path: &[u8], image: &mut [u32]) -> u32 {
-    let first = os::open_read(path);
-    if first < 0 {
-        return 10;
-    }
-    let counted = count_bytes(first);
-    libc::close(first);
-    match counted {
-        Counted::Unreadable => {
-            return 10;
-        }
+pub fn load<R: Files>(files: &R, path: &str, image: &mut [u32]) -> u32 {
+    match count(files, path) {
+        Counted::Unreadable => return 10,
         Counted::Ended(bytes) => {
             if bytes % 4 != 0 {
                 return 9;
@@ -78,13 +71,10 @@ pub fn load(path: &[u8], image: &mut [u32]) -> u32 {
         }
         Counted::PastBudget => {}
     }
-    let second = os::open_read(path);
-    if second < 0 {
+    let Ok(mut file) = fs::open(files, path) else {
         return 10;
-    }
-    let answer = send(second, image);
-    libc::close(second);
-    match answer {
+    };
+    match send(&mut file, image) {
         Answer::More => 10,
         Answer::Loaded => 0,
         Answer::Refused(number) => number,

@@ -1,5 +1,5 @@
 // The list of records: read whole, walked with one ledger, then the tiles.
-ghost use Rattle.io.specs.Counts.{IsPrefixLen};
+ghost use Rattle.std.specs.Prelude.{◌≡◌, ◌≤◌, length, take};
 
 use crate::print;
 use ledger::CELLS;
@@ -7,47 +7,52 @@ use places::PLACES;
 use records::{Record, Refusal};
 use row::fresh::fresh_ledger;
 use row::release::release;
+use std::io;
+use std::io::{Read, Write};
 
 // One byte more than the most bytes, so that a list that is too long shows.
 const MOST: usize = 16385;
 
 // How many bytes were read, and whether a read failed.
 #[derive(Clone, Copy)]
-struct Filled {
-    count: usize,
-    broken: bool,
+pub struct Filled {
+    pub count: usize,
+    pub broken: bool,
 }
 
-// Reads standard input until buf is full, the input ends or a read fails.
-fn fill(buf: &mut [u8]) -> Filled
-    ensures { IsPrefixLen result.count buf.new }
+// Reads until buf is full, the input ends or a read fails.
+pub fn fill<R: Read>(input: &mut R, buf: &mut [u8]) -> Filled
+    ensures in_bounds { result.count ≤ length buf.new }
+    ensures taken { result.count ≡ length (take result.count buf.new) }
 {
-    let mut done: usize = 0;
-    while done < buf.len() {
-        let got = libc::read(libc::STDIN_FILENO, &mut buf[done..]);
-        let n = io::count(got, &buf[done..]);
-        if n == 0 {
-            return Filled {
-                count: done,
-                broken: got < 0,
-            };
+    let mut count: usize = 0;
+    while count < buf.len() {
+        match input.read(&mut buf[count..]) {
+            Ok(0) => break,
+            Ok(n) => count += n,
+            Err(_) => {
+                return Filled {
+                    count,
+                    broken: true,
+                };
+            }
         }
-        done += n;
     }
     Filled {
-        count: done,
+        count,
         broken: false,
     }
 }
 
 // Each record in turn, and what it tells, a frame's replicas right behind it; the row is brought up to date by each. What is left of the walk ends it.
-fn records_of(
+fn records_of<W: Write>(
+    out: &mut W,
     image: &[u32],
     list: &[u8],
     row: &mut [u64; CELLS],
     places: &mut [u64; PLACES],
     broken: bool,
-) {
+) -> io::Result<()> {
     let mut record: u64 = 1;
     let mut at: usize = records::FIRST;
     loop {
@@ -61,46 +66,41 @@ fn records_of(
                 next,
             } => {
                 let j = judge::judge(image, row, port, time, &list[start..next], places);
-                let verdict = j.verdict;
-                print::verdict(record, verdict);
-                print::replicas(record, places, j.replicas);
+                print::verdict(out, record, j.verdict)?;
+                print::replicas(out, record, places, j.replicas)?;
                 at = next;
             }
             Record::Release { partition, next } => {
-                print::released(record, release(image, row, partition));
+                print::released(out, record, release(image, row, partition))?;
                 at = next;
             }
             Record::End => {
                 if broken {
-                    print::list_refused(Refusal::Cut);
+                    print::list_refused(out, Refusal::Cut)?;
                 }
-                return;
+                return Ok(());
             }
             Record::Refused(why) => {
-                print::list_refused(why);
-                return;
+                return print::list_refused(out, why);
             }
         }
         record += 1;
     }
 }
 
-pub fn walk(image: &[u32]) {
-    let mut list = [0u8; 16385];
-    let filled = fill(&mut list);
-    let count = filled.count;
-    if MOST < count {
-        return;
-    }
+pub fn walk<R: Read, W: Write>(input: &mut R, out: &mut W, image: &[u32]) -> io::Result<()> {
+    let mut list = [0u8; MOST];
+    let filled = fill(input, &mut list);
     let mut cells = [0u64; CELLS];
     fresh_ledger(image, &mut cells);
     let mut places = [0u64; PLACES];
     records_of(
+        out,
         image,
-        &list[..count],
+        &list[..filled.count],
         &mut cells,
         &mut places,
         filled.broken,
-    );
-    print::tiles(image, &cells);
+    )?;
+    print::tiles(out, image, &cells)
 }

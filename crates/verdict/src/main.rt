@@ -7,17 +7,25 @@ mod list;
 mod print;
 
 use image::IMAGE_WORDS;
+use std::env::Env;
+use std::io;
+use std::io::{BufWriter, Write};
 
-fn main() {
-    // Where there is no argument, or one that is too long, the path is empty: no file has it, which is 10.
-    let mut path = io::buffer();
-    let length = os::arg(1, &mut path);
+fn main(rt: HostRuntime) -> io::Result<()> {
+    // Where there is no argument, or one that is too long or no text, the path is empty: no file has it, which is 10.
+    let mut argument = [0u8; 4096];
+    let length = rt.arg(1, &mut argument).unwrap_or(0);
+    let path = str::from_utf8(&argument[..length]).unwrap_or("");
     let mut image = [0u32; IMAGE_WORDS];
-    let number = file::load(&path[..length], &mut image);
+    let number = file::load(&rt, path, &mut image);
+    let mut out = BufWriter::new(rt.alloc(), io::writer(&rt))?;
     if number != 0 {
-        print::config_refused(number);
-        return;
+        print::config_refused(&mut out, number)?;
+        return out.flush();
     }
-    io::write_all(libc::STDOUT_FILENO, b"config loaded\n");
-    list::walk(&image);
+    // Told before the list is read, which may be long in coming.
+    writeln!(out, "config loaded")?;
+    out.flush()?;
+    list::walk(&mut rt.reader(), &mut out, &image)?;
+    out.flush()
 }
