@@ -14,8 +14,7 @@ use Rattle.image.specs.declared.tables.Table.TheVariants.{VlanLookup}
 use Rattle.fields.specs.Fields.{vlanid, vlan_ing, vlan_egr}
 use Rattle.broken.specs.Broken.{no_vlan, stray}
 use Rattle.broken.specs.PassesLaws.{mark_tells}
-use Rattle.broken.proofs.stray.Statement.{statement}
-use Rattle.broken.proofs.stray.Tie as tie
+use Rattle.broken.proofs.stray.Goals as goal
 
 -- the mark of the entry's VLAN_ING v is read first
 module _ (image marks : List ℕ) (i v : ℕ) (e : v ≡ vlan_ing image i) (l : v < 4096) (long : length marks ≡ 4096) (marked : Marks (count_of image VlanLookup) (vlanid image) marks) where
@@ -26,13 +25,8 @@ module _ (image marks : List ℕ) (i v : ℕ) (e : v ≡ vlan_ing image i) (l : 
   egr_tells : (w : ℕ) → (get_or marks v 0 ≡ 0 → ⊥) → w ≡ vlan_egr image i → w < 4096 → eqb (get_or marks w 0) 0 ≡ stray image i
   egr_tells w ne f m = pass _ _ _ _ _ (mark_tells image marks v l long marked ∙ ap (no_vlan image) e) (ne_eqb _ 0 ne) (mark_tells image marks w m long marked ∙ ap (no_vlan image) f)
 
-pub stray_spec : {M : Type 1} → statement M
-stray_spec =
-    tie.close
-    (tie.spec
-    (λ c κs. search rules)
-    (λ c. search rules)
-    (λ c. search (rules, ing_missing))
-    (λ c κs. search rules)
-    (λ c. search rules)
-    (λ c. search (rules, egr_tells)))
+pub returns-then-marks-vlan_ing-eq0 : goal.returns-then-marks-vlan_ing-eq0
+returns-then-marks-vlan_ing-eq0 c = search (rules, ing_missing)
+
+pub returns : goal.returns
+returns c = search (rules, egr_tells)

@@ -1,4 +1,3 @@
--- `broken::sharindx_beyond`: no SHARINDX that the loop has passed reaches the count.
 use mathlib.Core.Path.{◌≡◌, sym, ap}
 use mathlib.Core.Bool.{Bool, true, false, not}
 use mathlib.Core.List.{List}
@@ -16,17 +15,8 @@ use Rattle.image.specs.SoundLaws.{held}
 use Rattle.image.specs.declared.tables.Table.TheVariants.{Policing}
 use Rattle.fields.specs.Fields.{sharindx}
 use Rattle.broken.specs.Broken.{sharindx_beyond}
-use Rattle.broken.proofs.sharindx_beyond.Statement.{statement}
-use Rattle.broken.proofs.sharindx_beyond.Tie as tie
-
-abbrev beyond : List ℕ → ℕ → Bool
-beyond image i = not (ltb (sharindx image i) (count_of image Policing))
-
-abbrev invariant_loop : tie.invariant_loop
-invariant_loop image n i₀ i = (i ≤ n) × (some_below i (beyond (image_in image)) ≡ false)
-
-abbrev decreases_loop : tie.decreases_loop
-decreases_loop image n i₀ i = n - i
+use Rattle.broken.proofs.sharindx_beyond.Invariants.{beyond}
+use Rattle.broken.proofs.sharindx_beyond.Goals as goal
 
 -- entry i has the SHARINDX r, and the count is n
 module _ (image : List ℕ) (i n r : ℕ) (e : n ≡ count_of image Policing) (q : r ≡ sharindx image i) where
@@ -39,17 +29,17 @@ module _ (image : List ℕ) (i n r : ℕ) (e : n ≡ count_of image Policing) (q
 -- to stop only where n < r would be right as well, and wrong at the next turn
 ruleset stops = (reaches, le_of_lt)
 
-pub sharindx_beyond_spec : {M : Type 1} → statement M
-sharindx_beyond_spec =
-    tie.close
-    (tie.spec
-    invariant_loop
-    decreases_loop
-    (λ c κs. search rules)
-    (λ c. (search rules, some_none _))
-    (λ c κs. search (rules, held, lt_of))
-    (λ c. search (rules, stops))
-    (λ c. search rules)
-    (λ c. search rules)
-    (λ c. search (rules, one_more))
-    (λ c. search (rules, some_end)))
+pub loop-i-init : goal.loop-i-init
+loop-i-init c = (search rules, some_none _)
+
+pub sharindx-requires : goal.sharindx-requires
+sharindx-requires c = search (rules, held, lt_of)
+
+pub returns-then-n-sharindx : goal.returns-then-n-sharindx
+returns-then-n-sharindx c = search (rules, stops)
+
+pub loop-i-preserved : goal.loop-i-preserved
+loop-i-preserved c = search (rules, one_more)
+
+pub returns : goal.returns
+returns c = search (rules, some_end)
