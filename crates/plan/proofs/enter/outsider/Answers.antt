@@ -6,8 +6,7 @@ use native.Mathlib.Omega.{arith}
 use Rattle.image.specs.SoundLaws.{held}
 use Rattle.image.specs.declared.tables.Table.TheVariants.{VlanLookup}
 use Rattle.addresses.specs.Address.{holds}
-use Rattle.plan.proofs.enter.outsider.Statement.{statement}
-use Rattle.plan.proofs.enter.outsider.Tie as tie
+use Rattle.plan.proofs.enter.outsider.Goals as goal
 
 low : (n : ℕ) → n < 5 → n < 64
 low n h = omega arith
@@ -19,13 +18,12 @@ when_tagged t r b e h = ap not h ∙ ap (λ (x : Bool). cond x (not b) false) (s
 when_not : (t b : Bool) → t ≡ false → false ≡ cond t b false
 when_not t b e = ap (λ (x : Bool). cond x b false) (sym e)
 
-pub outsider_spec : {M : Type 1} → statement M
-outsider_spec =
-    tie.close
-    (tie.spec
-    (λ c κs. let s = c.before.before.requires in held _ VlanLookup _ s.0.within s.1.1)
-    (λ c κs. low _ c.before.before.before.requires.1.0)
-    (λ c.
-    when_tagged _ _ _ c.before.before.if1.true
-    (c.holds.ensures ∙ ap (λ (x : ℕ). holds x c.before.before.before.before.args.port) c.before.vmemb-port.ensures.0))
-    (λ c. when_not _ _ c.if1.false))
+pub holds-requires : goal.holds-requires
+holds-requires c = low _ c.requires.port_bound.0
+
+pub returns-then-tagged : goal.returns-then-tagged
+returns-then-tagged c = when_tagged _ _ _ c.if-tagged.true
+    (c.holds.ensures ∙ ap (λ (x : ℕ). holds x c.args.port) c.vmemb_port.ensures.0)
+
+pub returns : goal.returns
+returns c = when_not _ _ c.if-tagged.false
