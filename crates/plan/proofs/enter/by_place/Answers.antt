@@ -19,7 +19,7 @@ pub kept_out-drop-requires : goal.kept_out-drop-requires
 kept_out-drop-requires c = record { sound = c.requires.sound; port_bound = (c.requires.port_bound.0, subst (Inside (image_in c.args.image.now)) c.in-At.is c.requires.inside) }
 
 pub returns-then-drop-ne0 : goal.returns-then-drop-ne0
-returns-then-drop-ne0 c = is_kept_out _ _ _ _ _ _ _ _ _ _ c.in-At.is c.mac_at.ensures c.kept_out-drop.ensures c.if-drop-ne0.true
+returns-then-drop-ne0 c = is_kept_out (image_in c.args.image.now) c.args.port c.args.frame.now c.args.vlan c.args.priority c.args.tagged _ _ _ _ c.in-At.is c.mac_at.ensures c.kept_out-drop.ensures c.if-drop-ne0.true
 
 pub returns : goal.returns
-returns c = is_let_in _ _ _ _ _ _ _ _ _ _ c.in-At.is c.mac_at.ensures c.kept_out-drop.ensures c.if-drop-ne0.false
+returns c = is_let_in (image_in c.args.image.now) c.args.port c.args.frame.now c.args.vlan c.args.priority c.args.tagged _ _ _ _ c.in-At.is c.mac_at.ensures c.kept_out-drop.ensures c.if-drop-ne0.false

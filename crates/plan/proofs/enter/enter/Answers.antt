@@ -19,10 +19,10 @@ by_place-requires c = let h = subst (Whole c.args.frame.now) (sym c.take_in.ensu
 
 pub returns-in-Dropped : goal.returns-in-Dropped
 unfolding enter_of
-returns-in-Dropped c = ap (by_intake _ _ _) (sym c.in-Dropped.is ∙ c.take_in.ensures)
+returns-in-Dropped c = ap (by_intake (image_in c.args.image.now) c.args.port c.args.frame.now) (sym c.in-Dropped.is ∙ c.take_in.ensures)
 
 pub returns-in-Taken : goal.returns-in-Taken
 unfolding enter_of
 returns-in-Taken c = c.by_place.ensures
-    ∙ ap (by_place _ _ _ _ _ _) c.place-placed.ensures
-    ∙ ap (by_intake _ _ _) (sym c.in-Taken.is ∙ c.take_in.ensures)
+    ∙ ap (by_place (image_in c.args.image.now) c.args.port c.args.frame.now c.in-Taken.vlan c.in-Taken.priority c.in-Taken.tagged) c.place-placed.ensures
+    ∙ ap (by_intake (image_in c.args.image.now) c.args.port c.args.frame.now) (sym c.in-Taken.is ∙ c.take_in.ensures)
