@@ -11,7 +11,7 @@ use Rattle.image.specs.Rows.{size_of}
 use Rattle.image.specs.SoundLaws.{within_limits}
 use Rattle.stream.specs.Machine.{beyond}
 use Rattle.one_block.specs.Data.{data_place}
-use Rattle.placing.proofs.refusal.Laws.{beyond_is}
+use Rattle.placing.proofs.RefusalLaws.{beyond_is}
 use Rattle.one_block.proofs.data_place.Statement.{statement}
 use Rattle.one_block.proofs.data_place.Tie as tie
 

@@ -5,7 +5,7 @@ use native.Mathlib.Omega.{arith}
 use borrow.Author.Rules.{rules}
 use Rattle.image.specs.Rows.{size_of, most_of}
 use Rattle.image.specs.RowLaws.{room_inside}
-use Rattle.stream.proofs.states.Laws.{so}
+use Rattle.stream.proofs.StatesLaws.{so}
 use Rattle.one_block.proofs.Laws.{data_run}
 use Rattle.one_block.proofs.stored.Statement.{statement}
 use Rattle.one_block.proofs.stored.Tie as tie

@@ -4,7 +4,7 @@ use mathlib.Core.List.{List}
 use Prim.Native.Nat.{ℕ}
 use borrow.Author.Rules.{rules}
 use Rattle.stream.specs.Machine.{at}
-use Rattle.placing.proofs.refusal.Writes.{opened_begun, opened_fresh}
+use Rattle.placing.proofs.RefusalWrites.{opened_begun, opened_fresh}
 use Rattle.placing.proofs.refusal.«open».Statement.{statement}
 use Rattle.placing.proofs.refusal.«open».Tie as tie
 

@@ -6,7 +6,7 @@ use Rattle.image.specs.Layout.{image_in}
 use Rattle.image.specs.Rows.{size_of}
 use Rattle.stream.specs.Machine.{overdue_in}
 use Rattle.stream.specs.declared.Phase.{Phase}
-use Rattle.placing.proofs.refusal.Laws.{beyond_is}
+use Rattle.placing.proofs.RefusalLaws.{beyond_is}
 use Rattle.placing.proofs.refusal.overdue.Statement.{statement}
 use Rattle.placing.proofs.refusal.overdue.Tie as tie
 

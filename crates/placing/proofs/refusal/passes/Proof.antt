@@ -3,7 +3,7 @@ use mathlib.Core.Path.{sym}
 use Prim.Native.Nat.{◌+◌}
 use native.Mathlib.Omega.{arith}
 use borrow.Author.Tests.{lt-ltb}
-use Rattle.placing.proofs.refusal.Laws.{same_test}
+use Rattle.placing.proofs.RefusalLaws.{same_test}
 use Rattle.placing.proofs.refusal.passes.Statement.{statement}
 use Rattle.placing.proofs.refusal.passes.Tie as tie
 
