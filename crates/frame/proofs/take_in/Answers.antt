@@ -2,6 +2,7 @@
 use borrow.Author.Rules.{rules}
 use mathlib.Core.Path.{ap, ◌∙◌}
 use Rattle.laws.specs.Chain.{hit_lt, pass_lt, hit_eq, pass_eq, of_eq, of_ne}
+use Rattle.image.specs.Layout.{image_in}
 use Rattle.frame.specs.Intake.{by_tag, intake_of}
 use Rattle.frame.specs.Laws.{octets_few, octets_many}
 use Rattle.frame.proofs.take_in.Goals as goal
@@ -22,4 +23,4 @@ pub returns : goal.returns
 unfolding intake_of
 returns c = pass_lt _ 64 _ _ _ (octets_many _ c.if-frame-lt-LEAST_BYTES.false)
     (pass_eq _ _ _ _ _ (of_ne _ _ _ c.ingress.ensures.0 c.if-ingress-eq0.false)
-    (c.by_tag.ensures ∙ ap (by_tag _ _) c.tag_of.ensures))
+    (c.by_tag.ensures ∙ ap (by_tag (image_in c.args.image.now) c.args.port) c.tag_of.ensures))

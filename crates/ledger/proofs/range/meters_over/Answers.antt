@@ -1,4 +1,4 @@
-use Rattle.std.proofs.Common.{ℕ, ◌-◌, ◌≤◌, sym, subst, arith, rules}
+use Rattle.std.proofs.Common.{◌≡◌, ℕ, ◌-◌, ◌≤◌, sym, subst, arith, rules}
 use Rattle.laws.specs.Scan.{some_below}
 use Rattle.image.specs.Layout.{image_in}
 use Rattle.image.specs.declared.tables.Table.TheVariants.{Policing}
@@ -7,20 +7,20 @@ use Rattle.ledger.specs.AboveLaws.{tells_none, meter_more, not_loaded_lem, meter
 use Rattle.ledger.proofs.range.meters_over.Goals as goal
 
 -- there are no more entries than meters
-entries_few : (c : tie.After-count invariant_loop decreases_loop invariant_loop2 decreases_loop2) → c.count.result ≤ 45
-entries_few c = subst (λ (n : ℕ). n ≤ 45) (sym c.count.ensures.0) (c.before.before.requires.0.within.within Policing)
+entries_few : (n m : ℕ) → n ≡ m → m ≤ 45 → n ≤ 45
+entries_few n m e h = subst (λ (k : ℕ). k ≤ 45) (sym e) h
 
 pub loop-k-init : goal.loop-k-init
 loop-k-init c = (search rules, tells_none _)
 
 pub meter_over-all-requires : goal.meter_over-all-requires
-meter_over-all-requires c = let w = entries_few c.before.before.before in search rules
+meter_over-all-requires c = let w = entries_few _ _ c.count-entries.ensures.0 (c.requires.0.within.within Policing) in search rules
 
 pub loop-k-preserved : goal.loop-k-preserved
 loop-k-preserved c = (search rules, search (rules, meter_more))
 
 pub loop-k-2-init : goal.loop-k-2-init
-loop-k-2-init c = (search rules, let w = entries_few c.before.before in search rules, c.loop-k.invariant.1)
+loop-k-2-init c = (search rules, let w = entries_few _ _ c.count-entries.ensures.0 (c.requires.0.within.within Policing) in search rules, c.loop-k.invariant.1)
 
 pub loop-k-2-preserved : goal.loop-k-2-preserved
 loop-k-2-preserved c = (search rules, search rules, search (rules, meter_more, not_loaded_lem))

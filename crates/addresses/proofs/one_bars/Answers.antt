@@ -1,0 +1,24 @@
+use mathlib.Core.Path.{◌≡◌, refl, sym, ◌∙◌}
+use mathlib.Core.Bool.{false}
+use Prim.Native.Nat.{◌-◌, ◌≤◌}
+use native.Mathlib.Omega.{arith}
+use borrow.Author.Rules.{rules}
+use Rattle.laws.specs.Scan.{some_below}
+use Rattle.laws.specs.ScanLaws.{some_none, some_not, some_found, some_end, part_inside}
+use Rattle.image.specs.Layout.{image_in}
+use Rattle.addresses.specs.Address.{bars}
+use Rattle.lookup.specs.Groups.{from}
+use Rattle.addresses.proofs.one_bars.Goals as goal
+
+pub loop-k-init : goal.loop-k-init
+loop-k-init c = (search rules, some_none _)
+
+pub returns-then-bars : goal.returns-then-bars
+returns-then-bars c = sym (some_found _ c.loop-k.k _ c.loop-k-test.true (sym c.bars.ensures ∙ c.if-bars.true))
+
+pub loop-k-preserved : goal.loop-k-preserved
+loop-k-preserved c = let l = c.loop-k in
+    (omega arith, some_not l.k _ l.invariant.1 (sym c.bars.ensures ∙ c.if-bars.false))
+
+pub returns : goal.returns
+returns c = some_end _ _ c.loop-k.k _ refl c.loop-k-test.false c.loop-k.invariant.0 c.loop-k.invariant.1

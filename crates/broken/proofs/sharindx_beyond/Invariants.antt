@@ -1,0 +1,28 @@
+-- `broken::sharindx_beyond`: no SHARINDX that the loop has passed reaches the count.
+use mathlib.Core.Path.{◌≡◌, sym, ap}
+use mathlib.Core.Bool.{Bool, true, false, not}
+use mathlib.Core.List.{List}
+use Prim.Native.Nat.{ℕ, ◌+◌, ◌-◌, ◌≤◌, ◌<◌}
+use native.Mathlib.Nat.{le_of_lt}
+use native.Mathlib.Omega.{arith}
+use lib.Dec.{ltb}
+use borrow.Author.Rules.{rules}
+use borrow.Author.Tests.{lt-ltb, le-ltb}
+use Rattle.laws.specs.Chain.{lt_of}
+use Rattle.laws.specs.Scan.{some_below}
+use Rattle.laws.specs.ScanLaws.{some_none, some_not, some_found, some_end}
+use Rattle.image.specs.Layout.{image_in, count_of}
+use Rattle.image.specs.SoundLaws.{held}
+use Rattle.image.specs.declared.tables.Table.TheVariants.{Policing}
+use Rattle.fields.specs.Fields.{sharindx}
+use Rattle.broken.specs.Broken.{sharindx_beyond}
+use Rattle.broken.proofs.sharindx_beyond.Given as goal
+
+abbrev pub beyond : List ℕ → ℕ → Bool
+beyond image i = not (ltb (sharindx image i) (count_of image Policing))
+
+abbrev pub invariant-loop-i : goal.invariant-loop-i
+invariant-loop-i l = (l.i ≤ l.n) × (some_below l.i (beyond (image_in l.image)) ≡ false)
+
+abbrev pub decreases-loop-i : goal.decreases-loop-i
+decreases-loop-i l = l.n - l.i
