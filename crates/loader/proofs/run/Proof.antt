@@ -7,7 +7,7 @@ use borrow.Author.Rules.{rules}
 use Rattle.stream.specs.Machine.{Machine, at, run}
 use Rattle.stream.specs.Fine.{Fine}
 use Rattle.stream.specs.FineLaws.{step_fine}
-use Rattle.stream.proofs.states.Laws.{leaves_at, at_leaves}
+use Rattle.stream.proofs.StatesLaws.{leaves_at, at_leaves}
 use Rattle.loader.proofs.Laws.{one_more, run_end}
 use Rattle.loader.proofs.run.Statement.{statement}
 use Rattle.loader.proofs.run.Tie as tie

@@ -1,7 +1,7 @@
 -- `loader::step`: by the phase.
 use mathlib.Core.Path.{refl, ◌∙◌, ap, subst}
 use borrow.Author.Rules.{rules}
-use Rattle.stream.proofs.states.Laws.{so}
+use Rattle.stream.proofs.StatesLaws.{so}
 use Rattle.loader.proofs.Laws.{at_phase}
 use Prim.Native.Nat.{ℕ}
 use Rattle.stream.specs.Machine.{at, headed, sized}

@@ -3,8 +3,8 @@ use mathlib.Core.Path.{refl, sym, ◌∙◌, ap, subst}
 use borrow.Author.Rules.{rules}
 use Rattle.stream.specs.Machine.{Machine, run}
 use Rattle.stream.specs.Fine.{Fine}
-use Rattle.stream.proofs.states.Laws.{so}
-use Rattle.placing.proofs.refusal.Writes.{LetBy, writes_refused, let_by, opened_fine, writes_run}
+use Rattle.stream.proofs.StatesLaws.{so}
+use Rattle.placing.proofs.RefusalWrites.{LetBy, writes_refused, let_by, opened_fine, writes_run}
 use Rattle.loader.proofs.write.Statement.{statement}
 use Rattle.loader.proofs.write.Tie as tie
 

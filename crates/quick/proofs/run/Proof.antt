@@ -7,7 +7,7 @@ use borrow.Author.Rules.{rules}
 use Rattle.stream.specs.Machine.{Machine, at, run}
 use Rattle.stream.specs.Fine.{Fine}
 use Rattle.stream.specs.FineLaws.{run_fine}
-use Rattle.stream.proofs.states.Laws.{leaves_at, at_leaves}
+use Rattle.stream.proofs.StatesLaws.{leaves_at, at_leaves}
 use Rattle.loader.proofs.Laws.{run_end}
 use Rattle.quick.proofs.Laws.{rest, goes_on}
 use Rattle.quick.proofs.run.Statement.{statement}

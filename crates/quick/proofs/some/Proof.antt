@@ -7,7 +7,7 @@ use borrow.Author.Rules.{rules}
 use Rattle.stream.specs.Machine.{at}
 use Rattle.stream.specs.Fine.{Roomy}
 use Rattle.stream.specs.declared.Phase.{Phase}
-use Rattle.stream.proofs.states.Laws.{so}
+use Rattle.stream.proofs.StatesLaws.{so}
 use Rattle.quick.proofs.Laws.{one_word}
 use Rattle.quick.proofs.some.Statement.{statement}
 use Rattle.quick.proofs.some.Tie as tie

@@ -9,7 +9,7 @@ use Rattle.stream.specs.Paper.{words_of}
 use Rattle.stream.specs.Machine.{Machine, at, fresh, run}
 use Rattle.stream.specs.Fine.{Fine}
 use Rattle.stream.specs.FineLaws.{cleared_fine, run_fine}
-use Rattle.stream.proofs.states.Laws.{so, leaves_at}
+use Rattle.stream.proofs.StatesLaws.{so, leaves_at}
 use Rattle.whole.proofs.Laws.{started, part_of, bytes_on}
 use Rattle.quick.proofs.Laws.{part_is}
 use Rattle.whole.proofs.bytes_run.Statement.{statement}

@@ -8,7 +8,7 @@ use lib.Seq.{length-take-le}
 use borrow.Author.Rules.{rules}
 use Rattle.stream.specs.Paper.{words_of}
 use Rattle.stream.specs.Machine.{at, run}
-use Rattle.stream.proofs.states.Laws.{so}
+use Rattle.stream.proofs.StatesLaws.{so}
 use Rattle.whole.proofs.Laws.{chunk_on, chunk_end}
 use Rattle.whole.proofs.chunk_run.Statement.{statement}
 use Rattle.whole.proofs.chunk_run.Tie as tie

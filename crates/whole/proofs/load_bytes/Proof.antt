@@ -3,7 +3,7 @@ use mathlib.Core.Path.{refl, sym, ◌∙◌, ap, subst}
 use borrow.Author.Rules.{rules}
 use Rattle.image.specs.SoundLaws.{has_room}
 use Rattle.whole.proofs.Laws.{ends_as, bytes_31, bytes_9, bytes_whole}
-use Rattle.stream.proofs.states.Laws.{leaves_at}
+use Rattle.stream.proofs.StatesLaws.{leaves_at}
 use Prim.Native.Nat.{ℕ, ◌≤◌}
 use Rattle.image.specs.Layout.{image_words}
 use Rattle.stream.specs.Ends.{settled}

@@ -1,8 +1,8 @@
 -- `headers::begun`: refused, or its data are due.
 use mathlib.Core.Path.{refl}
 use borrow.Author.Rules.{rules}
-use Rattle.stream.proofs.states.Laws.{so}
-use Rattle.loader.proofs.headers.Laws.{begun_by_lem}
+use Rattle.stream.proofs.StatesLaws.{so}
+use Rattle.loader.proofs.HeadersLaws.{begun_by_lem}
 use Rattle.loader.proofs.headers.begun.Statement.{statement}
 use Rattle.loader.proofs.headers.begun.Tie as tie
 

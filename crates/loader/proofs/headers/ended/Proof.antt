@@ -1,7 +1,7 @@
 -- `headers::ended`: 8, or the end.
 use borrow.Author.Rules.{rules}
-use Rattle.stream.proofs.states.Laws.{so}
-use Rattle.loader.proofs.headers.Laws.{ended_8, ended_on}
+use Rattle.stream.proofs.StatesLaws.{so}
+use Rattle.loader.proofs.HeadersLaws.{ended_8, ended_on}
 use Rattle.loader.proofs.headers.ended.Statement.{statement}
 use Rattle.loader.proofs.headers.ended.Tie as tie
 

@@ -7,8 +7,8 @@ use Rattle.image.specs.Layout.{image_in}
 use Rattle.image.specs.Sound.{Bounded}
 use Rattle.rules.specs.Rules.{ruled}
 use Rattle.stream.specs.Machine.{refuse}
-use Rattle.stream.proofs.states.Laws.{so}
-use Rattle.loader.proofs.headers.Laws.{bounded_marked, finish_refused, finish_told}
+use Rattle.stream.proofs.StatesLaws.{so}
+use Rattle.loader.proofs.HeadersLaws.{bounded_marked, finish_refused, finish_told}
 use Rattle.loader.proofs.headers.finish.Statement.{statement}
 use Rattle.loader.proofs.headers.finish.Tie as tie
 

@@ -3,7 +3,7 @@ use native.Mathlib.Nat.{div-le_self}
 use native.Mathlib.Omega.{arith}
 use borrow.Author.Rules.{rules}
 use Rattle.stream.specs.Machine.{had_in}
-use Rattle.loader.proofs.headers.Headers.{header_5, header_6, header_right}
+use Rattle.loader.proofs.HeadersCarried.{header_5, header_6, header_right}
 use Rattle.loader.proofs.headers.fits.Statement.{statement}
 use Rattle.loader.proofs.headers.fits.Tie as tie
 

@@ -1,6 +1,6 @@
 -- `headers::header_sum`: both words go in.
 use borrow.Author.Rules.{rules}
-use Rattle.loader.proofs.headers.Laws.{two_words}
+use Rattle.loader.proofs.HeadersLaws.{two_words}
 use Rattle.loader.proofs.headers.header_sum.Statement.{statement}
 use Rattle.loader.proofs.headers.header_sum.Tie as tie
 
