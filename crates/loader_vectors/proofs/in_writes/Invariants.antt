@@ -3,7 +3,7 @@ use Rattle.std.proofs.Common.{◌-◌, ◌≤◌, ◌≡◌, length}
 use Rattle.loader_vectors.proofs.in_writes.Given as goal
 
 abbrev pub invariant-loop-at : goal.invariant-loop-at
-invariant-loop-at g l = (l.at ≤ length l.words.now) × (length l.buffer ≡ length l.initial.buffer)
+invariant-loop-at l = (l.at ≤ length l.words) × (length l.buffer ≡ length l.initial.buffer)
 
 abbrev pub decreases-loop-at : goal.decreases-loop-at
-decreases-loop-at g l = length l.words.now - l.at
+decreases-loop-at l = length l.words - l.at
