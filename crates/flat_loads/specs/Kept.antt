@@ -23,7 +23,7 @@ use Rattle.stream.specs.declared.Phase.TheVariants.{Device, Id, Length, Sum, Dat
 use Rattle.stream.specs.declared.Load.{Load}
 use Rattle.flat_numbers.specs.Flat.{load_in, is_load, numbers_of, stored_in}
 use Rattle.flat_states.specs.Stored.{Storable}
-use Rattle.flat_states.specs.Round.{state_back, is_state, of_numbers}
+use Rattle.flat_states.specs.Round.{state_back, is_state_lem, of_numbers}
 use Rattle.flat_loads.specs.Calls.{FlatWritten, wrote_flat}
 use Rattle.flat_loads.specs.Through.{of_state}
 use Rattle.flat_loads.specs.Words.{Words}
@@ -123,7 +123,7 @@ module _ (c buffer words : List ℕ) (six : length c ≡ 6) (state : is_load c �
   state_after = ap load_in is ∙ state_back c next six fits
 
   pub is_state_after : is_load (wrote_flat c buffer words).numbers ≡ true
-  is_state_after = ap is_load is ∙ is_state c next six fits.answered
+  is_state_after = ap is_load is ∙ is_state_lem c next six fits.answered
 
   pub six_after : length (wrote_flat c buffer words).numbers ≡ 6
   six_after = ap length is ∙ length-sets c 0 (numbers_of c next) ∙ six

@@ -6,7 +6,7 @@ use Rattle.stream.specs.Machine.{Written, untouched, wrote}
 use Rattle.stream.specs.declared.Load.{Load}
 use Rattle.flat_numbers.specs.Flat.{load_in, is_load, stored_in}
 use Rattle.flat_states.specs.Stored.{Storable}
-use Rattle.flat_states.specs.Round.{numbers_back, state_back, is_state}
+use Rattle.flat_states.specs.Round.{numbers_back, state_back, is_state_lem}
 use Rattle.flat_loads.specs.Calls.{FlatWritten, flattened, as_found_flat, wrote_flat}
 
 -- numbers that no load state has: 30 after 31, everything as found
@@ -36,5 +36,5 @@ as_found_lem c buffer words e kept =
 pub through : (c : List ℕ) (l : Load) (buffer words : List ℕ) → length c ≡ 6 → Storable l
     → wrote_flat (stored_in c l) buffer words ≡ flattened (stored_in c l) (wrote l buffer words)
 through c l buffer words six fits =
-    of_state (stored_in c l) buffer words (is_state c l six fits.answered)
+    of_state (stored_in c l) buffer words (is_state_lem c l six fits.answered)
     ∙ ap (λ (s : Load). flattened (stored_in c l) (wrote s buffer words)) (state_back c l six fits)

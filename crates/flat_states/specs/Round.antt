@@ -143,8 +143,8 @@ module _ (c : List ℕ) (l : Load) (six : length c ≡ 6) where
       let o : Outside l.phase l.table = fits.outside in
       ap load_in (sets-eq (numbers_of c l) c 0 (omega arith)) ∙ simp (low_joined, high_joined, phase_back, table_back)
 
-  pub is_state : (told_in 0 l.phase ≡ 0xFFFFFFFF → ⊥) → is_load (stored_in c l) ≡ true
-  is_state h =
+  pub is_state_lem : (told_in 0 l.phase ≡ 0xFFFFFFFF → ⊥) → is_load (stored_in c l) ≡ true
+  is_state_lem h =
       let p : phase_number l.phase < 4294967296 = phase_small in
       let t : place_in stood l.phase l.table < 4294967296 = place_small in
       let as_numbers : is_load (numbers_of c l)

@@ -12,7 +12,7 @@ use Rattle.stream.specs.FineLaws.{cleared_fine, step_fine}
 use Rattle.stream.specs.Machine.{Machine, at, fresh, step}
 use Rattle.stream.specs.declared.Load.{Load}
 use Rattle.stream.specs.Leaves.{Leaves}
-use Rattle.stream.proofs.states.Laws.{leaves_at}
+use Rattle.stream.proofs.StatesLaws.{leaves_at}
 
 -- what every step of a load keeps
 pub fit : (l : Load) (buffer : List ℕ) → Fine (at l buffer) → Bounded buffer

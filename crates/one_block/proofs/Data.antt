@@ -23,8 +23,8 @@ use Rattle.stream.specs.declared.Load.{Load}
 use Rattle.stream.specs.declared.Phase.{Phase}
 use Rattle.stream.specs.declared.Phase.TheVariants.{Data}
 use Rattle.one_block.specs.Data.{data_place}
-use Rattle.placing.proofs.refusal.Writes.{wrote_run, opened_begun}
-use Rattle.placing.proofs.refusal.Laws.{some_word}
+use Rattle.placing.proofs.RefusalWrites.{wrote_run, opened_begun}
+use Rattle.placing.proofs.RefusalLaws.{some_word}
 use Rattle.one_block.proofs.Laws.{data_run}
 
 -- ---- a place in the image: each test has failed

@@ -1,5 +1,5 @@
-// A reader over a frame list: it carries the list and its place, and hands on what stands there. Each function over it is proved by a walk by
-// hand, so they are few and thin: the work is `records::record_at`'s, and `record_from` serves every caller that has a list and a place.
+// A reader over a frame list: it carries the list and its place, and hands on what stands there. Its functions are few and thin: the work is
+// `records::record_at`'s, and `record_from` serves every caller that has a list and a place.
 #![tactic(auto)]
 
 ghost use Rattle.std.specs.Prelude.{◌≡◌};

@@ -86,8 +86,8 @@ module _ (list : List ℕ) where
 
   stopped_after : (at : ℕ) (s : Stands) (f : ℕ → List Stands) → Inside list at s
       → ((next : ℕ) → at < next → next ≤ length list → Stopped (f next)) → Stopped (s ∷ after s f)
-  stopped_after at (frame port time start count next) f i h = stopped_more _ (f next) (h next (omega arith) i.2)
-  stopped_after at (release partition next) f i h = stopped_more _ (f next) (h next i.0 i.1)
+  stopped_after at (frame port time start count next) f i h = stopped_more (frame port time start count next) (f next) (h next (omega arith) i.2)
+  stopped_after at (release partition next) f i h = stopped_more (release partition next) (f next) (h next i.0 i.1)
   stopped_after at end f i h = tt
   stopped_after at (refused n) f i h = tt
 

@@ -1,3 +1,0 @@
--- Laws that the proofs of refusals and writes cite.
-pub mod Laws
-pub mod Writes

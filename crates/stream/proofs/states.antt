@@ -1,2 +1,0 @@
--- Laws on what a function leaves, which every way of loading cites.
-pub mod Laws
