@@ -1,0 +1,7 @@
+-- `flat_loads::load_bytes`: the whole load's answer by its number, and its buffer.
+use borrow.Author.Rules.{rules}
+use Rattle.flat_loads.proofs.Laws.{ends_flat}
+use Rattle.flat_loads.proofs.load_bytes.Goals as goal
+
+pub returns : goal.returns
+returns c = search (rules, ends_flat)
