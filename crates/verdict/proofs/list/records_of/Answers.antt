@@ -1,12 +1,12 @@
 -- `verdict::list::records_of`: a record lies inside the list, and the walk goes on past it.
-use Rattle.std.proofs.Common.{rules, ◌≡◌, ◌≤◌, ◌<◌, ℕ, List, length, arith}
+use Rattle.std.proofs.Common.{rules, ◌≡◌, ◌≤◌, ◌<◌, ℕ, List, length, arith, sym, ◌∙◌, ap, subst}
 use Rattle.records.specs.Answer.{told}
 use Rattle.records.specs.List.{stands_at}
 use Rattle.records.specs.Promises.{inside, frame_order, frame_within}
 use Rattle.records.specs.Walk.{Inside}
 use Rattle.records.specs.declared.Record.{Record}
 use Rattle.records.specs.declared.Record.TheVariants as answer
-use Rattle.std.proofs.Common.{sym, ◌∙◌, ap, subst}
+use Rattle.verdict.proofs.list.records_of.Given.{Over}
 use Rattle.verdict.proofs.list.records_of.Goals as goal
 use Rattle.verdict.proofs.list.records_of.Goals.{in-Frame+in_ok-verdict-in-Frame+in_ok-replicas-in-Frame, in-Release+in_ok-released-in-Release}
 
@@ -33,26 +33,19 @@ slice_bounds-judge-start g c = search (rules, frame_order, frame_within)
 pub slice_bounds-judge-end : goal.slice_bounds-judge-end
 slice_bounds-judge-end g c = search (rules, frame_within)
 
+-- the same of the place that the turn's match leaves
+moves : (g : Over) (c : goal.Joined-found g) → Moves c.args.list.now c.loop-port.at c.match-found.at
+moves g c =
+    elim c.match-found.branch [
+      | in-Frame+in_ok-verdict-in-Frame+in_ok-replicas-in-Frame w ↦ moves_frame _ _ _ c.record_from-found.ensures _ _ _ _ _ w.in-Frame.is _ w.at-is
+      | in-Release+in_ok-released-in-Release w ↦ moves_release _ _ _ c.record_from-found.ensures _ _ w.in-Release.is _ w.at-is
+    ]
+
 pub overflow_add-record : goal.overflow_add-record
-overflow_add-record g c =
-    let m : Moves c.args.list.now c.loop-port.at c.match-found.at =
-        elim c.match-found.branch
-        [ in-Frame+in_ok-verdict-in-Frame+in_ok-replicas-in-Frame w ↦ moves_frame _ _ _ c.record_from-found.ensures _ _ _ _ _ w.in-Frame.is _ w.at-is
-        | in-Release+in_ok-released-in-Release w ↦ moves_release _ _ _ c.record_from-found.ensures _ _ w.in-Release.is _ w.at-is ] in
-    search rules
+overflow_add-record g c = let m = moves g c in search rules
 
 pub loop-port-smaller : goal.loop-port-smaller
-loop-port-smaller g c =
-    let m : Moves c.args.list.now c.loop-port.at c.match-found.at =
-        elim c.match-found.branch
-        [ in-Frame+in_ok-verdict-in-Frame+in_ok-replicas-in-Frame w ↦ moves_frame _ _ _ c.record_from-found.ensures _ _ _ _ _ w.in-Frame.is _ w.at-is
-        | in-Release+in_ok-released-in-Release w ↦ moves_release _ _ _ c.record_from-found.ensures _ _ w.in-Release.is _ w.at-is ] in
-    omega arith
+loop-port-smaller g c = let m = moves g c in omega arith
 
 pub loop-port-preserved : goal.loop-port-preserved
-loop-port-preserved g c =
-    let m : Moves c.args.list.now c.loop-port.at c.match-found.at =
-        elim c.match-found.branch
-        [ in-Frame+in_ok-verdict-in-Frame+in_ok-replicas-in-Frame w ↦ moves_frame _ _ _ c.record_from-found.ensures _ _ _ _ _ w.in-Frame.is _ w.at-is
-        | in-Release+in_ok-released-in-Release w ↦ moves_release _ _ _ c.record_from-found.ensures _ _ w.in-Release.is _ w.at-is ] in
-    omega arith
+loop-port-preserved g c = let m = moves g c in omega arith
