@@ -18,14 +18,12 @@ fn main(rt: HostRuntime) -> io::Result<()> {
     let path = str::from_utf8(&argument[..length]).unwrap_or("");
     let mut image = [0u32; IMAGE_WORDS];
     let number = file::load(&rt, path, &mut image);
-    let mut out = BufWriter::new(rt.alloc(), io::writer(&rt))?;
     if number != 0 {
-        print::config_refused(&mut out, number)?;
-        return out.flush();
+        return print::config_refused(&mut io::writer(&rt), number);
     }
     // Told before the list is read, which may be long in coming.
-    writeln!(out, "config loaded")?;
-    out.flush()?;
+    println!(rt; "config loaded")?;
+    let mut out = BufWriter::new(rt.alloc(), io::writer(&rt))?;
     list::walk(&mut rt.reader(), &mut out, &image)?;
     out.flush()
 }

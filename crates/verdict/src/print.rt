@@ -14,11 +14,10 @@ const MOST_REPLICAS: usize = 32;
 
 // A stream that is refused: no list is read, and no tile is loaded.
 pub fn config_refused<W: Write>(out: &mut W, n: u32) -> io::Result<()> {
-    writeln!(out, "config refused {n}")?;
-    for port in 0..5 {
-        writeln!(out, "tile {port} not-loaded")?;
-    }
-    Ok(())
+    writeln!(
+        out,
+        "config refused {n}\ntile 0 not-loaded\ntile 1 not-loaded\ntile 2 not-loaded\ntile 3 not-loaded\ntile 4 not-loaded"
+    )
 }
 
 fn refused<W: Write>(out: &mut W, n: u32) -> io::Result<()> {
