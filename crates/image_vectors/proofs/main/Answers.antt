@@ -1,5 +1,5 @@
 -- `image_vectors::main`: a load begins over zeros, and each step keeps what a load keeps.
-use Rattle.std.proofs.Common.{rules, ◌≡◌, ◌∙◌, ap, ℕ, length}
+use Rattle.std.proofs.Common.{rules, ◌∙◌, ap, ℕ, length}
 use Rattle.std.proofs.lemmas.List.{length-replicate}
 use Rattle.image.specs.Layout.{image_words}
 use Rattle.image_vectors.specs.Fit.{starts, goes_on}
