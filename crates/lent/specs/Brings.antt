@@ -7,7 +7,7 @@ use Rattle.ledger.specs.Answers.{answer_of}
 use Rattle.row.specs.Release.{release_refusal, released}
 use Rattle.places.specs.Places.{laid_over}
 use Rattle.judge.specs.declared.Judgement.{Judgement}
-use Rattle.judge.specs.Judge.{Called, call_of, answer_of as judgementOf, said_of as saidOfVerdict}
+use Rattle.judge.specs.Judge.{Called, call_of, answer_of as judgement_of, said_of as said_of_verdict}
 use Rattle.lent.specs.declared.Event.{Event}
 use Rattle.lent.specs.declared.Event.TheVariants.{Frame, Release}
 use Rattle.lent.specs.declared.Told.{Told}
@@ -20,7 +20,7 @@ release_says Done = says 4 0 []
 
 -- of a frame, how many replicas were told stands before the verdict's own values
 abbrev pub frame_says : Judgement → Says
-frame_says j = says (saidOfVerdict j.verdict).kind (saidOfVerdict j.verdict).number (j.replicas ∷ (saidOfVerdict j.verdict).values)
+frame_says j = says (said_of_verdict j.verdict).kind (said_of_verdict j.verdict).number (j.replicas ∷ (said_of_verdict j.verdict).values)
 
 abbrev pub said_of : Told → Says
 said_of (Judged j) = frame_says j
@@ -33,7 +33,7 @@ pub record Outcome : Type 0 where
   pub places : List ℕ
 
 abbrev pub framed : Called → List ℕ → Outcome
-framed c places = record { told = Judged (judgementOf c); row = c.row; places = laid_over c.replicas places }
+framed c places = record { told = Judged (judgement_of c); row = c.row; places = laid_over c.replicas places }
 
 abbrev pub bring_of : List ℕ → List ℕ → Event → List ℕ → List ℕ → Outcome
 bring_of buffer g (Frame port time) frame places = framed (call_of buffer g port time frame) places

@@ -9,7 +9,7 @@ use Rattle.row.specs.Release as release
 use Rattle.settle.specs.declared.Verdict.{Verdict}
 use Rattle.settle.specs.declared.Verdict.TheVariants as verdict
 use Rattle.judge.specs.declared.Judgement.{Judgement}
-use Rattle.judge.specs.Judge.{said_of as saidOfVerdict, Judges}
+use Rattle.judge.specs.Judge.{said_of as said_of_verdict, Judges}
 use Rattle.judge.specs.SaidLaws.{apart as verdicts-apart}
 use Rattle.lent.specs.declared.Event.{Event}
 use Rattle.lent.specs.declared.Event.TheVariants.{Frame, Release}
@@ -46,7 +46,7 @@ one_told buffer g event frame places r s a b t u p q = (p.answer ∙ sym q.answe
 -- ---- what is said tells every case apart
 
 -- a release's kinds are above a verdict's
-verdict_below : (v : Verdict) → ltb 2 (saidOfVerdict v).kind ≡ false
+verdict_below : (v : Verdict) → ltb 2 (said_of_verdict v).kind ≡ false
 verdict_below (verdict.Refused n) = refl
 verdict_below (verdict.Drop n) = refl
 verdict_below (verdict.Sent s) = refl

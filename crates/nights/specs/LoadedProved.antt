@@ -19,7 +19,7 @@ use Rattle.places.specs.Places.{laid_over}
 use Rattle.places.specs.PlacesLaws.{laid_none}
 use Rattle.judge.specs.Refusal.{mistimed, unjudged, refusal_of}
 use Rattle.judge.specs.declared.Judgement.{Judgement}
-use Rattle.judge.specs.Judge.{Called, by_itself, call_of, answer_of as answerOfCall}
+use Rattle.judge.specs.Judge.{Called, by_itself, call_of, answer_of as answer_of_call}
 use Rattle.judge.specs.Proved.{refused_call}
 use Rattle.tile.specs.declared.shares.Tile.TheVariants.{NotLoaded, NoFrames, Shares}
 use Rattle.tile.specs.declared.shares.Asked.{Asked}
@@ -76,7 +76,7 @@ module _ (buffer : List ℕ) (u : Unloaded buffer) where
         frame =
             λ g port time bytes places r after told p.
             let e = called_30 g port time bytes in
-            (p.answer ∙ ap answerOfCall e, p.row ∙ ap (λ (c : Called). c.row) e, p.laid ∙ ap (λ (c : Called). laid_over c.replicas places) e ∙ sym (laid_none places));
+            (p.answer ∙ ap answer_of_call e, p.row ∙ ap (λ (c : Called). c.row) e, p.laid ∙ ap (λ (c : Called). laid_over c.replicas places) e ∙ sym (laid_none places));
         release = λ g partition r after p. (p.answer ∙ ap answer_of (release_30 g partition), p.row ∙ kept_30 g partition);
         tile = λ g q t h p. p.whole ∙ tile_30 g q h;
         fresh_flat = λ r after p. (p.number ∙ unloaded_30, p.row ∙ fresh_30);

@@ -35,7 +35,7 @@ use Rattle.kept.specs.History.{Event, frame, release, step, after}
 use Rattle.kept.specs.HistoryLaws.{step_kept}
 use Rattle.flat_answers.specs.Answers.{flat_verdict}
 use Rattle.nights.specs.Nights.{Said, defined_answer, defined_answers}
-use Rattle.nights.specs.Sums.{Kind, refused, dropped as droppedKind, sent, kind_of, kind_flat, kind_ten, sum_over, at_port, frame_in, drop_in, octets_in, dropped_in, sums_of}
+use Rattle.nights.specs.Sums.{Kind, refused, dropped as dropped_kind, sent, kind_of, kind_flat, kind_ten, sum_over, at_port, frame_in, drop_in, octets_in, dropped_in, sums_of}
 
 -- ---- what became of a frame, told by numbers
 pub same_kind : (v : Verdict) → kind_flat (flat_verdict v) ≡ kind_of v
@@ -47,11 +47,11 @@ same_kind (Sent s) = refl
 pub ten_kind : (v : Verdict) → kind_ten (ten_of v) ≡ kind_of v
 ten_kind (Refused n) = by (head_of 0 n % 4294967296) (omega arith)
   where
-    by : (k : ℕ) → k ≡ 0 → cond (eqb k 0) refused (cond (eqb k 1) droppedKind sent) ≡ refused
+    by : (k : ℕ) → k ≡ 0 → cond (eqb k 0) refused (cond (eqb k 1) dropped_kind sent) ≡ refused
     by k e = rw e
 ten_kind (Drop n) = by (head_of 1 n % 4294967296) (omega arith)
   where
-    by : (k : ℕ) → k ≡ 1 → cond (eqb k 0) refused (cond (eqb k 1) droppedKind sent) ≡ droppedKind
+    by : (k : ℕ) → k ≡ 1 → cond (eqb k 0) refused (cond (eqb k 1) dropped_kind sent) ≡ dropped_kind
     by k e = rw e
 ten_kind (Sent s) = refl
 
@@ -148,7 +148,7 @@ release_counts buffer g partition p h = go (eqb (release_refusal buffer g partit
 -- ---- one of the four counts, and what a frame adds to it
 record Counter (count : Counts → ℕ) (each : Kind → List ℕ → ℕ) : Type 0 where
   refuses : (bytes : List ℕ) → each refused bytes ≡ 0
-  drops : (c : Counts) (bytes : List ℕ) → count (counted_of c (octets_of bytes) true) ≡ count c + each droppedKind bytes
+  drops : (c : Counts) (bytes : List ℕ) → count (counted_of c (octets_of bytes) true) ≡ count c + each dropped_kind bytes
   sends : (c : Counts) (bytes : List ℕ) → count (counted_of c (octets_of bytes) false) ≡ count c + each sent bytes
 
 module _ {Verdicts Answers : Type 0} (as_verdict : Called → Verdicts) (as_answer : ℕ → Answers) (kind : Verdicts → Kind) (same : (c : Called) → kind (as_verdict c) ≡ kind_of c.verdict)
@@ -159,7 +159,7 @@ module _ {Verdicts Answers : Type 0} (as_verdict : Called → Verdicts) (as_answ
     counted_one g (frame port time bytes) k =
         add-zero _
         ∙ counts_cases buffer g port time p bytes k.all inside (λ v d. count d ≡ count (counts_at g p) + cond (eqb p port) (each (kind_of v) bytes) 0) (λ n. none (eqb p port))
-        (λ a n. one true droppedKind (c.drops (counts_at g p) bytes) (eqb p port))
+        (λ a n. one true dropped_kind (c.drops (counts_at g p) bytes) (eqb p port))
         (λ a s. one false sent (c.sends (counts_at g p) bytes) (eqb p port))
         ∙ ap (λ (x : Kind). count (counts_at g p) + cond (eqb p port) (each x bytes) 0) (sym (same (call_of buffer g port time bytes)))
       where

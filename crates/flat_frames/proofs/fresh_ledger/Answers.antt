@@ -1,0 +1,7 @@
+-- `flat_frames::fresh_ledger`: the answer's number, and the row.
+use borrow.Author.Rules.{rules}
+use Rattle.flat_frames.specs.FramesLaws.{freshens}
+use Rattle.flat_frames.proofs.fresh_ledger.Goals as goal
+
+pub returns : goal.returns
+returns c = search (rules, freshens)
