@@ -147,7 +147,7 @@ def turn_antt(path, text, out, own):
 
 
 def turn_rt(text, out, own):
-    """The clauses and the ghost lines of a source file. A Rust name holds no dash and no capital behind a small letter, so what is renamed stands in ghost text."""
+    """The clauses and the ghost lines of a source file; a string stays. A Rust name holds no dash and no capital behind a small letter, so what is renamed stands in ghost text."""
     kept = kit_names(text, own)
     lines = []
     for line in text.split("\n"):
@@ -155,10 +155,11 @@ def turn_rt(text, out, own):
         if m and not is_own(m.group(1), own):
             lines.append(line)
             continue
-        code, said = re.match(r"^(.*?)(//.*)?$", line).groups()
+        code, said = re.match(r'^((?:"(?:[^"\\]|\\.)*"|.)*?)(//.*)?$', line).groups()
         if said is not None:
             said = re.sub(r"`[^`]*`", lambda q: turned(q.group(0), out, kept), said)
-        lines.append(turned(code, out, kept) + (said or ""))
+        parts = re.split(r'("(?:[^"\\]|\\.)*")', code)
+        lines.append("".join(part if i % 2 else turned(part, out, kept) for i, part in enumerate(parts)) + (said or ""))
     return "\n".join(lines)
 
 

@@ -14,7 +14,7 @@ fn main() {
     let archive = folder.join("libtailbow_c.a");
     if !archive.is_file() {
         println!(
-            "cargo:warning={} is missing: `rt staticlib tailbow_c` proves and writes it",
+            "cargo:warning={} is missing: `tools/archive` proves and writes it",
             archive.display()
         );
     }

@@ -17,19 +17,21 @@ WHY = """// tables.py of crc_short_bytes made it.
 
 SHORT = """// The tables of CRC-32 by two words, in one match, so that they stand with the code and are never made: what a byte leaves, and the same two words
 // later. crc_short is over them.
-""" + WHY + """ghost use mathlib.Core.Path.{{_≡_}};
-ghost use Prim.Native.Nat.{{_%_}};
-ghost use Rattle·crc.specs.Crc.{{bitsOut}};
-ghost use Rattle·crc_short_bytes·specs.specs.Twice.{{twice}};
+""" + WHY + """#![tactic(auto)]
+
+ghost use Rattle.std.specs.Prelude.{{◌≡◌, ◌%◌}};
+ghost use Rattle.crc.specs.Crc.{{bits_out}};
+ghost use Rattle.crc_short_bytes.specs.Twice.{{twice}};
 
 // What a byte leaves, by how many bytes, its own with them, are still to leave, each number with the same two words later.
+#[derive(Clone, Copy)]
 pub struct Leaves {{
 {fields}
 }}
 
 // A number by the plain loop: what the arm for every other number holds, though a byte has no other.
 fn plain(b: u32, n: u32) -> u64
-    ensures {{ λ r. ⌜ r ≡ twice (bitsOut n b) ⌝ }}
+    ensures {{ result ≡ twice (bits_out n b) }}
 {{
     let z = crc::bits_out(b, n);
     let late = crc::bits_out(z, 64);
@@ -38,12 +40,15 @@ fn plain(b: u32, n: u32) -> u64
 """
 
 WORD = """// The tables of CRC-32 by one word, in one match, so that they stand with the code and are never made: what a byte leaves. crc_word is over them.
-""" + WHY + """ghost use mathlib.Core.Path.{{_≡_}};
-ghost use Prim.Native.Nat.{{_%_}};
-ghost use Rattle·crc.specs.Crc.{{bitsOut}};
+""" + WHY + """#![tactic(auto)]
+
+ghost use Rattle.std.specs.Prelude.{{◌≡◌, ◌%◌}};
+ghost use Rattle.crc.specs.Crc.{{bits_out}};
+
 use crc::bits_out;
 
 // What a byte leaves, by how many bytes, its own with them, are still to leave.
+#[derive(Clone, Copy)]
 pub struct Leaves {{
 {fields}
 }}
@@ -51,7 +56,7 @@ pub struct Leaves {{
 
 TABLE = """
 pub fn byte(b: u32) -> Leaves
-    ensures {{ λ r. ⌜ {holds} ⌝ }}
+    ensures {{ {holds} }}
 {{
     let byte = b % 256;
     match byte + 256 {{
@@ -62,15 +67,13 @@ pub fn byte(b: u32) -> Leaves
 """
 
 PROOF = """-- `{crate}::byte` meets its contract: each number of an arm is made of those at the powers of two.
-use mathlib.Core.Path.{{_≡_, refl}}
-use mathlib.Core.List.{{List, [], _∷_}}
-use Prim.Native.Nat.{{ℕ, _+_, _<_}}
-use borrow.Author.Needs.{{needs}}
+use mathlib.Core.Path.{{◌≡◌, refl}}
+use mathlib.Core.List.{{List, [], ◌∷◌}}
+use Prim.Native.Nat.{{ℕ, ◌+◌, ◌<◌}}
 use lib.Dec.{{T, eqb, lit<}}
-use Rattle·crc.specs.Crc.{{bit, bitsOut}}
+use Rattle.crc.specs.Crc.{{bit, bits_out}}
 {uses}
-use Rattle·{crate}·proofs.proofs.byte.Statement.{{statement}}
-use Rattle·{crate}·proofs.proofs.byte.Tie as tie
+use Rattle.{crate}.proofs.byte.Goals as goal
 {powers}
 -- the numbers of the arm at 256 + k, for the byte k
 numbers : (k b {values} : ℕ) → k < 256 → b + 256 ≡ k + 256
@@ -79,23 +82,15 @@ numbers : (k b {values} : ℕ) → k < 256 → b + 256 ≡ k + 256
 numbers k b {values} h e {names} = (
 {proofs}
 )
-
-pub byte-spec : {{M : Type 1}} → statement M
-byte-spec =
-    tie.close
-    (tie.spec
-    (λ c. search needs)
-{plains}{answers}
-    (λ c. search needs))
-"""
+{answers}"""
 
 POWERS = """
 abbrev {count} : List ℕ
 {count} = {powers} ∷ []
 
-{count}-are : {count} ≡ {basis}
-unfolding bit bitsOut{unfolding}
-{count}-are = refl
+{count}_are : {count} ≡ {basis}
+unfolding bit bits_out{unfolding}
+{count}_are = refl
 """
 
 
@@ -119,24 +114,24 @@ def write(path, text):
 def table(crate, head, entry, digits, counts, means, plain, uses, basis, unfolding, arm):
     bits = {c: 8 * (k + 1) for k, c in enumerate(counts)}
     source = head.format(fields="\n".join("    pub %s: u%d," % (c, 4 * digits) for c in counts)) + TABLE.format(
-        holds="\n        × ".join("(r .%s ≡ %s)" % (c, means % bits[c]) for c in counts),
+        holds="\n        × ".join("(result.%s ≡ %s)" % (c, means % bits[c]) for c in counts),
         arms="\n".join("        %d => Leaves { %s }," % (256 + b, ", ".join("%s: 0x%0*X" % (c, digits, entry(bits[c], b)) for c in counts))
             for b in range(256)),
         others=", ".join("%s: %s(byte, %d)" % (c, plain, bits[c]) for c in counts))
     write("../%s/src/lib.rt" % crate, source)
-    write("../%s/proofs/byte/Proof.antt" % crate, PROOF.format(
-        crate=crate, uses=uses, plains="    (λ c κs. search needs)\n" * len(counts),
+    write("../%s/proofs/byte/Answers.antt" % crate, PROOF.format(
+        crate=crate, uses=uses,
         powers="".join(POWERS.format(count=c, powers=" ∷ ".join("0x%X" % entry(bits[c], 1 << p) for p in range(8)), basis=basis % bits[c], unfolding=unfolding)
             for c in counts),
         values=" ".join("v%d" % bits[c] for c in counts), names=" ".join("t%d" % bits[c] for c in counts),
         tests="\n    → ".join("T (eqb v%d (pick %s k))" % (bits[c], c) for c in counts),
         holds="\n    × ".join("(v%d ≡ %s)" % (bits[c], means % bits[c]) for c in counts).replace("(b % 256)", "b"),
-        proofs="\n".join("    %s %s k v%d b %s-are h t%d e," % (arm % bits[c], c, bits[c], c, bits[c]) for c in counts),
-        answers="\n".join("    (λ c. numbers %d _ %s (lit< tt) (c .match .keys%d) %s)" % (b, " ".join("_" for c in counts), b + 1, " ".join("tt" for c in counts))
-            for b in range(256))))
+        proofs="\n".join("  %s %s k v%d b %s_are h t%d e," % (arm % bits[c], c, bits[c], c, bits[c]) for c in counts),
+        answers="".join("\npub returns-in-%d : goal.returns-in-%d\nreturns-in-%d c = numbers %d _ %s (lit< tt) c.in-%d.is %s\n" % (256 + b, 256 + b, 256 + b, b,
+            " ".join("_" for c in counts), 256 + b, " ".join("tt" for c in counts)) for b in range(256))))
 
 
-table("crc_short_bytes", SHORT, twice, 16, COUNTS, "twice (bitsOut %d (b %% 256))", "plain",
-    "use Rattle·crc_short_bytes·specs.specs.Twice.{twice}\nuse Rattle·crc_short_bytes·specs.specs.Arm.{basis, arm}\nuse Rattle·crc.specs.Arm.{pick}", "basis %d 0 8", " twice basis", "arm %d")
-table("crc_word_bytes", WORD, after, 8, COUNTS[:4], "bitsOut %d (b %% 256)", "bits_out",
-    "use Rattle·crc.specs.Arm.{pick, basis, bits-linear, arm}", "basis (bitsOut %d) 0 8", "", "arm (bits-linear %d)")
+table("crc_short_bytes", SHORT, twice, 16, COUNTS, "twice (bits_out %d (b %% 256))", "plain",
+    "use Rattle.crc_short_bytes.specs.Twice.{twice}\nuse Rattle.crc_short_bytes.specs.Arm.{basis}\nuse Rattle.crc_short_bytes.specs.ArmLaws.{arm}\nuse Rattle.crc.specs.Arm.{pick}", "basis %d 0 8", " twice basis", "arm %d")
+table("crc_word_bytes", WORD, after, 8, COUNTS[:4], "bits_out %d (b %% 256)", "bits_out",
+    "use Rattle.crc.specs.Arm.{pick, basis}\nuse Rattle.crc.specs.ArmLaws.{bits_linear, arm}", "basis (bits_out %d) 0 8", "", "arm (bits_linear %d)")

@@ -1,6 +1,6 @@
 /*
  * `judge STREAM < LIST`: loads a stream in writes, judges the list's frames, prints verdicts and five tiles as Tailbow's own program does.
- * At the top of the repository, once `rt staticlib tailbow_c` has written the archive:
+ * At the top of the repository, once `tools/archive` has written the archive:
  *
  *     cc -std=c99 -Iinclude examples/c/judge.c -o judge -Ltarget/staticlib -ltailbow_c
  *     ./judge examples/k.stream < examples/k.list

@@ -4,7 +4,7 @@
 //! and with which tag, and the same for the frame's replicas, and gives each port's share of dropped frames. It keeps nothing and zero
 //! apart: a configuration that did not load is not judged, and a port with no frames shows no share.
 //!
-//! The entries are Rattle, proved against their promises, and linked as the archive `libtailbow_c.a`. `rt staticlib tailbow_c` writes
+//! The entries are Rattle, proved against their promises, and linked as the archive `libtailbow_c.a`. `tools/archive` writes
 //! it to the repository's `target/staticlib`; the variable `TAILBOW_STATICLIB` names another folder. What is proved ends at the
 //! archive: this crate, which only turns numbers into enums, is tested.
 //!

@@ -6,8 +6,8 @@ use Rattle.fields.specs.Fields.{sharindx, smax, rate, maxlen, partition, vmemb_p
 use Rattle.config_k.specs.Tables.{others}
 
 -- a number for each index below n, as one computed test shows
-abbrev pub each : ℕ → (ℕ → ℕ) → (ℕ → ℕ) → Type 0
-each n f g = (i : ℕ) → i < n → f i ≡ g i
+abbrev pub Each : ℕ → (ℕ → ℕ) → (ℕ → ℕ) → Type 0
+Each n f g = (i : ℕ) → i < n → f i ≡ g i
 
 -- the entries that each table has: "05 and 0D absent" is no entry, and not one zero entry; nor has K one of 12
 pub record Counts (image : List ℕ) : Type 0 where
@@ -24,11 +24,11 @@ pub record Counts (image : List ℕ) : Type 0 where
 
 -- "45 policing entries, SHARINDX itself, SMAX 65535, RATE 64000, MAXLEN 1518, PARTITION 0"
 pub record Policed (image : List ℕ) : Type 0 where
-  pub itself : each 45 (sharindx image) (λ i. i)
-  pub most : each 45 (smax image) (λ i. 65535)
-  pub speed : each 45 (rate image) (λ i. 64000)
-  pub long : each 45 (maxlen image) (λ i. 1518)
-  pub part : each 45 (partition image) (λ i. 0)
+  pub itself : Each 45 (sharindx image) (λ i. i)
+  pub most : Each 45 (smax image) (λ i. 65535)
+  pub speed : Each 45 (rate image) (λ i. 64000)
+  pub long : Each 45 (maxlen image) (λ i. 1518)
+  pub part : Each 45 (partition image) (λ i. 0)
 
 -- "VLAN 1 with all ports in VMEMB_PORT and VLAN_BC, no tags"
 pub record OneVlan (image : List ℕ) : Type 0 where
@@ -40,24 +40,24 @@ pub record OneVlan (image : List ℕ) : Type 0 where
 -- "each port's three masks in 08 are the other four; every VLAN_PMAP passes its priority through": priority j of a port's frame becomes j, and new
 -- priority q has queue q at each output
 pub record Forwarded (image : List ℕ) : Type 0 where
-  pub broadcasts : each 5 (bc_domain image) others
-  pub reached : each 5 (reach_port image) others
-  pub flooded : each 5 (fl_domain image) others
-  pub priorities : (port : ℕ) → port < 5 → each 8 (vlan_pmap image port) (λ j. j)
-  pub queues : (q : ℕ) → q < 8 → each 8 (vlan_pmap image (5 + q)) (λ e. q)
+  pub broadcasts : Each 5 (bc_domain image) others
+  pub reached : Each 5 (reach_port image) others
+  pub flooded : Each 5 (fl_domain image) others
+  pub priorities : (port : ℕ) → port < 5 → Each 8 (vlan_pmap image port) (λ j. j)
+  pub queues : (q : ℕ) → q < 8 → Each 8 (vlan_pmap image (5 + q)) (λ e. q)
 
 -- "every port INGRESS, EGRESS, VLANID 1, VLANPRIO 0, no DRPUNTAG"
 pub record Ports (image : List ℕ) : Type 0 where
-  pub receives : each 5 (ingress image) (λ i. 1)
-  pub sends : each 5 (egress image) (λ i. 1)
-  pub vlan : each 5 (port_vlanid image) (λ i. 1)
-  pub priority : each 5 (vlanprio image) (λ i. 0)
-  pub untagged : each 5 (drpuntag image) (λ i. 0)
+  pub receives : Each 5 (ingress image) (λ i. 1)
+  pub sends : Each 5 (egress image) (λ i. 1)
+  pub vlan : Each 5 (port_vlanid image) (λ i. 1)
+  pub priority : Each 5 (vlanprio image) (λ i. 0)
+  pub untagged : Each 5 (drpuntag image) (λ i. 0)
 
 -- "PART_SPC(0) 1, the rest 0"
 pub record Spaces (image : List ℕ) : Type 0 where
   pub first : part_spc image 0 ≡ 1
-  pub others : each 7 (λ j. part_spc image (1 + j)) (λ j. 0)
+  pub others : Each 7 (λ j. part_spc image (1 + j)) (λ j. 0)
 
 -- an image that is configuration K's
 pub record IsK (image : List ℕ) : Type 0 where

@@ -12,12 +12,12 @@ use Rattle.image.specs.Images.{layout_entry, layout_count}
 use Rattle.image.specs.declared.tables.Table.TheVariants.{AddressLookup, Policing, VlanLookup, Forwarding, MacConfiguration, LookupParameters, ForwardingParameters, GeneralParameters, XmiiModeParameters, Retagging}
 use Rattle.fields.specs.Fields.{number, bits, field_of}
 use Rattle.config_k.specs.Tables.{others, k_tables}
-use Rattle.config_k.specs.Fields.{each, Counts, Policed, OneVlan, Forwarded, Ports, Spaces, IsK}
+use Rattle.config_k.specs.Fields.{Each, Counts, Policed, OneVlan, Forwarded, Ports, Spaces, IsK}
 
-all : (n : ℕ) (f g : ℕ → ℕ) → every n (λ i. eqb (f i) (g i)) ≡ true → each n f g
+all : (n : ℕ) (f g : ℕ → ℕ) → every n (λ i. eqb (f i) (g i)) ≡ true → Each n f g
 all n f g e i h = eqb-true (f i) (g i) (every_at n i (λ j. eqb (f j) (g j)) e h)
 
-all_two : (n m : ℕ) (f g : ℕ → ℕ → ℕ) → every n (λ i. every m (λ j. eqb (f i j) (g i j))) ≡ true → (i : ℕ) → i < n → each m (f i) (g i)
+all_two : (n m : ℕ) (f g : ℕ → ℕ → ℕ) → every n (λ i. every m (λ j. eqb (f i j) (g i j))) ≡ true → (i : ℕ) → i < n → Each m (f i) (g i)
 all_two n m f g e i h = all m (f i) (g i) (every_at n i (λ k. every m (λ j. eqb (f k j) (g k j))) e h)
 
 -- ---- the image, read by K's lists
@@ -39,7 +39,7 @@ read t n h i l top bottom =
 
 -- a field of each of n entries, as one test over the list shows
 field : (t : Table) (n : ℕ) → Has t n → (top bottom : ℕ) (g : ℕ → ℕ) → every n (λ i. eqb (field_in t i top bottom) (g i)) ≡ true
-    → each n (λ i. field_of (image_of k_tables) t i top bottom) g
+    → Each n (λ i. field_of (image_of k_tables) t i top bottom) g
 field t n h top bottom g e i l = read t n h i l top bottom ∙ all n (λ j. field_in t j top bottom) g e i l
 
 has_policers : Has Policing 45

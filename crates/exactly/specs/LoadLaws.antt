@@ -169,6 +169,10 @@ ended_number lists = go (eqb (ruled (image_of lists)) 0) refl
     go true e = sym (eqb-true _ 0 e)
     go false e = refl
 
+-- where framing passes, a stream's number is the rules' answer on the image that its tables fix
+pub ruled_number : (words : List ℕ) (lists : List (List ℕ)) → framed words ≡ passed lists → (loaded words).number ≡ ruled (image_of lists)
+ruled_number words lists e = ap number_in e ∙ ended_number lists
+
 tells_from : (turns : ℕ) (before : List ℕ) (lists : List (List ℕ)) (ws : List ℕ) → length ws ≤ turns
     → TellsFrom (place before lists ws) (number_in (blocks turns before lists ws))
 unfolding blocks

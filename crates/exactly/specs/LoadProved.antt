@@ -1,10 +1,12 @@
 -- "A stream is refused exactly when a rule there is broken, and with the first one broken": every answer that the promises of a whole load permit.
 use Rattle.std.specs.Prelude.{◌≡◌, refl, Bool, true, false, cond, not, List, [], ◌∷◌, ℕ, ◌%◌, eqb, length}
 use Rattle.std.proofs.Common.{sym, ◌∙◌, ap, eqb-true}
+use Rattle.image.specs.Layout.{image_of}
 use Rattle.image.specs.Loaded.{too_short}
+use Rattle.rules.specs.Rules.{ruled}
 use Rattle.stream.specs.declared.Answer.{Answer}
 use Rattle.stream.specs.declared.Answer.TheVariants.{Loaded, Refused}
-use Rattle.stream.specs.Paper.{Whole, as_found, into, loaded, numbered, loaded_words, words_of, loaded_bytes}
+use Rattle.stream.specs.Paper.{Whole, passed, framed, as_found, into, loaded, numbered, loaded_words, words_of, loaded_bytes}
 use Rattle.stream.specs.Leaves.{Ends}
 use Rattle.flat_numbers.specs.Flat.{number_of}
 use Rattle.flat_loads.specs.Calls.{LoadsWords, LoadsBytes}
@@ -12,7 +14,7 @@ use Rattle.exactly.specs.First.{Exactly}
 use Rattle.exactly.specs.FirstLaws.{same_first_or, first_or_is, exactly}
 use Rattle.exactly.specs.DecidesLaws.{also, by_lt, by_eq, by_not}
 use Rattle.exactly.specs.Load.{Tells, before_words, before_bytes, WordsPage, BytesPage}
-use Rattle.exactly.specs.LoadLaws.{tells, same_told}
+use Rattle.exactly.specs.LoadLaws.{ruled_number, tells, same_told}
 
 -- ---- the pages give a number each, and the loads answer it
 
@@ -89,3 +91,15 @@ pub bytes_told_the_first_flat : (buffer bytes : List ℕ) (r : ℕ) (after : Lis
 bytes_told_the_first_flat buffer bytes r after p =
     exactly ℕ (BytesPage buffer bytes) (λ n. n) (λ n. n) r _ (λ n. refl) (bytes_same buffer bytes) (bytes_first buffer bytes)
     (p.told ∙ ap number_of (bytes_answer buffer bytes) ∙ number_back _)
+
+-- ---- where framing passes, a load of words into a buffer with room answers what the rules answer
+
+module _ (buffer words : List ℕ) (lists : List (List ℕ)) (room : too_short buffer ≡ false) (passes : framed words ≡ passed lists) where
+  number_ruled : number_of_words buffer words ≡ ruled (image_of lists)
+  number_ruled = ap (λ (t : Bool). cond t 31 (loaded words).number) room ∙ ruled_number words lists passes
+
+  pub words_ruled : (r : Answer) (after : List ℕ) → Ends (loaded_words buffer words) r after → r ≡ numbered (ruled (image_of lists))
+  words_ruled r after p = p.told ∙ words_answer buffer words ∙ ap numbered number_ruled
+
+  pub words_ruled_flat : (r : ℕ) (after : List ℕ) → LoadsWords buffer words r after → r ≡ ruled (image_of lists)
+  words_ruled_flat r after p = p.told ∙ ap number_of (words_answer buffer words) ∙ number_back _ ∙ number_ruled

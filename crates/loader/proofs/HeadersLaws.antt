@@ -1,7 +1,7 @@
 -- What each way through a header and through the stream's end leaves, as the machine says it.
 use mathlib.Core.Path.{◌≡◌, refl, sym, ◌∙◌, ap}
 use mathlib.Core.List.{List, [], ◌∷◌, ◌++◌}
-use Prim.Native.Nat.{ℕ, ◌<◌, ◌≤◌}
+use Prim.Native.Nat.{ℕ, ◌≤◌}
 use lib.Dec.{eqb, lit<}
 use lib.ListN.{length, replicate}
 use lib.Seq.{drop-set-lt}

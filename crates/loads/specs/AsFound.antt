@@ -31,6 +31,8 @@ left_zero (loaded e) h k = absurd (k refl)
 left_zero (refused n e) h k = e
 
 left_not_found : {answer : Answer} {buffer : List ℕ} → LeftBy answer buffer → RefusedWith leave_as_found answer → ⊥
+left_not_found {buffer = buffer} (more _) o = elim o [ ]
+left_not_found {buffer = buffer} (loaded _) o = elim o [ ]
 left_not_found (refused z e) o = zero_not_found z o
 
 -- no refusal is "more" or "loaded"
@@ -137,6 +139,7 @@ module _ {numbers buffer words : List ℕ} where
       → image_in w.buffer ≡ replicate image_words 0
   flat_zero_by (stateless this) u z m h = absurd (h this)
   flat_zero_by (stateless (later this)) u z m h = absurd (h (later this))
+  flat_zero_by (stateless {n = n} (later (later o))) u z m h = elim o [ ]
   flat_zero_by (stated e) u z m h =
       zero_by (way (load_in numbers) buffer words) u (refused_behind (wrote (load_in numbers) buffer words).answer z m) h
 
@@ -177,6 +180,7 @@ module _ {buffer : List ℕ} where
   whole_never_30_by : {w : Whole} → WholeWay buffer w → w.answer ≡ Refused 30 → ⊥
   whole_never_30_by (unread this) e = let q : ◌≡◌ {A = ℕ} 9 30 = ap number_of e in omega arith
   whole_never_30_by (unread (later this)) e = let q : ◌≡◌ {A = ℕ} 31 30 = ap number_of e in omega arith
+  whole_never_30_by (unread {n = n} (later (later o))) e = elim o [ ]
   whole_never_30_by (settles room kept says m) e = left_not_found says (subst (RefusedWith leave_as_found) (sym e) (later this))
 
   module _ {answer : Answer} {after : List ℕ} (p : WholeLoad buffer answer after) where

@@ -49,9 +49,9 @@ stated {v} {w} {x} {c} s small p =
 -- what the chain on the load state leaves
 follows : {v : Written} {w x : FlatWritten} {cs : List (List ℕ)} → Stated v w → AllWords cs → WriteChainFlat w cs x
     → (u : Written) × WriteChain v cs u × Tells u x
-follows {v} s small done = (v, done, s.tells)
-follows {v} s small (call {c = c} p q) =
-    let r = follows (stated s small.0 p) small.1 q in (r.0, call (record { answer = refl; said = refl; state = refl; kept = refl }) r.1, r.2)
+follows {v = v} s small done = (v, done, s.tells)
+follows {v = v} s small (call {c = c} p q) =
+    let r = follows {v = wrote v.load v.buffer c} (stated s small.0 p) small.1 q in (r.0, call (record { answer = refl; said = refl; state = refl; kept = refl }) r.1, r.2)
 
 -- a fresh load's numbers are a state's
 pub fresh_stated : {numbers : List ℕ} (buffer : List ℕ) → FreshLoad numbers → Stated (unwritten buffer) (unwritten_flat numbers buffer)

@@ -105,11 +105,13 @@ flat_loaded {answer = answer} none s e h = is_loaded s (zero_loaded answer (neve
 unread_some : {n : ℕ} → OneOf n (9 ∷ 31 ∷ []) → 0 < n
 unread_some this = lit< tt
 unread_some (later this) = lit< tt
+unread_some {n = n} (later (later o)) = elim o [ ]
 
 untaken_some : {n : ℕ} → OneOf n (30 ∷ 31 ∷ 32 ∷ []) → 0 < n
 untaken_some this = lit< tt
 untaken_some (later this) = lit< tt
 untaken_some (later (later this)) = lit< tt
+untaken_some {n = n} (later (later (later o))) = elim o [ ]
 
 -- whole loads for C and Rust: answered neither 0 nor 9 nor 31, the image is not loaded
 pub flat_whole_load_unloaded : {buffer : List ℕ} {r : ℕ} {after : List ℕ} → WholeLoadFlat buffer r after → (r ≡ 0 → ⊥) → (OneOf r (9 ∷ 31 ∷ []) → ⊥) → Unloaded after

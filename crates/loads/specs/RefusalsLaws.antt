@@ -13,6 +13,7 @@ found_not_zero this = refl
 found_not_zero (later this) = refl
 found_not_zero (later (later this)) = refl
 found_not_zero (later (later (later this))) = refl
+found_not_zero {n = n} (later (later (later (later o)))) = elim o [ ]
 
 pub zero_not_found : {n : ℕ} → leaves_zero n ≡ true → OneOf n leave_as_found → ⊥
 zero_not_found h o = false≢true (sym (found_not_zero o) ∙ h)
@@ -20,6 +21,8 @@ zero_not_found h o = false≢true (sym (found_not_zero o) ∙ h)
 -- an answer that refuses with one of these numbers, by its number
 pub refused_number : {ns : List ℕ} (answer : Answer) → RefusedWith ns answer → OneOf (number_of answer) ns
 refused_number (Refused n) o = o
+refused_number {ns = ns} More o = elim o [ ]
+refused_number {ns = ns} Loaded o = elim o [ ]
 
 -- "answer 0 means loaded", of an answer that is no refusal with 0
 pub zero_loaded : (answer : Answer) → (answer ≡ Refused 0 → ⊥) → number_of answer ≡ 0 → answer ≡ Loaded
@@ -33,6 +36,7 @@ found_between this = (lit< tt, lit< tt)
 found_between (later this) = (lit< tt, lit< tt)
 found_between (later (later this)) = (lit< tt, lit< tt)
 found_between (later (later (later this))) = (lit< tt, lit< tt)
+found_between {n = n} (later (later (later (later o)))) = elim o [ ]
 
 pub number_refused : (answer : Answer) → OneOf (number_of answer) leave_as_found → RefusedWith leave_as_found answer
 number_refused More o = let b : 0xFFFFFFFF < 33 = (found_between o).1 in absurd (omega arith)

@@ -17,11 +17,10 @@ use Rattle.stream.specs.declared.Answer.TheVariants.{More, Loaded, Refused}
 use Rattle.stream.specs.declared.Load.{Load}
 use Rattle.stream.specs.declared.Phase.{Phase}
 use Rattle.stream.specs.declared.Phase.TheVariants.{Device, Id, Length, Sum, Data, Told}
-use Rattle.stream.specs.Paper.{loaded, numbered}
+use Rattle.stream.specs.Paper.{numbered}
 use Rattle.stream.specs.Machine.{Machine, at, step, run, answer_of, begun, damaged, outside, opened}
 use Rattle.stream.specs.Fine.{Roomy, Fine}
 use Rattle.stream.specs.FineLaws.{cleared_fine, mark_kept, step_fine, undamaged_fine}
-use Rattle.stream.specs.EndsLaws.{whole}
 use Rattle.loads.specs.Refusals.{leaves_zero}
 use Rattle.loads.specs.Moves.{is_told, RestKept, Move, waits, stores, refuses, loads, LeftBy}
 use Rattle.loads.specs.Moves as moves

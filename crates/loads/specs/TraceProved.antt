@@ -92,9 +92,9 @@ plain_after c buffer words is e = go (is_told l.phase) refl
 plain_chain : {v : Written} {w x : FlatWritten} {cs : List (List ℕ)} → Stated v w → AllWords cs → w.numbers ≡ plain (load_in w.numbers) → WriteChainFlat w cs x
     → x.numbers ≡ plain (load_in x.numbers)
 plain_chain s small e done = e
-plain_chain {v} {w} {x} s small e (call {t = t} {c = c} p q) =
+plain_chain {v = v} {w = w} {x = x} s small e (call {t = t} {c = c} p q) =
     let next = stated s small.0 p in
-    plain_chain next small.1
+    plain_chain {v = wrote v.load v.buffer c} next small.1
     (p.state ∙ plain_after w.numbers w.buffer c s.is e
     ∙ ap plain (ap (λ (l : Load). (wrote l w.buffer c).load) s.tells.state ∙ ap (λ (b : List ℕ). (wrote v.load b c).load) s.tells.buffer ∙ sym next.tells.state))
     q

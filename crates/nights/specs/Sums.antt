@@ -111,7 +111,7 @@ pub record Shows (c : Counts) (t : Asked) : Type 0 where
   -- "With frames and no drops both are +0"
   pub perfect : (c.frames ≡ 0 → ⊥) → c.drops ≡ 0 → (x y : Float) × (t ≡ asked.Shown (Shares x y)) × (to_bits binary64 x ≡ 0) × (to_bits binary64 y ≡ 0)
 
--- and at the entry for C and Rust: kind 2 for no_frames, kind 3 with "the exact bits of that division"
+-- and at the entry for C and Rust: kind 2 for no-frames, kind 3 with "the exact bits of that division"
 pub record ShowsFlat (c : Counts) (t : FlatTile) : Type 0 where
   pub tile : t ≡ flat_shown (tile_from c)
   pub no_frames : (t.kind ≡ 2) ↔ (c.frames ≡ 0)

@@ -2,7 +2,7 @@
 use Rattle.std.specs.Prelude.{◌≡◌, List, ℕ, ◌<◌}
 use Rattle.image.specs.Layout.{count_of}
 use Rattle.image.specs.declared.tables.Table.TheVariants.{Policing}
-use Rattle.fields.specs.Fields.{smax, rate, partition}
+use Rattle.fields.specs.Fields.{smax}
 use Rattle.plan.specs.declared.Policed.{Policed}
 use Rattle.plan.specs.declared.Policed.TheVariants.{Unmetered, TooLong, By}
 use Rattle.plan.specs.declared.Course.{Course}

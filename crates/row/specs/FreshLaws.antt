@@ -10,7 +10,7 @@ use Rattle.image.specs.declared.tables.Table.TheVariants.{Policing}
 use Rattle.fields.specs.Fields.{part_spc}
 use Rattle.ledger.specs.declared.Answer.{Answer}
 use Rattle.ledger.specs.declared.Answer.TheVariants.{Refused, Done}
-use Rattle.ledger.specs.Row.{units, credit, since, last, start, many, cell_count}
+use Rattle.ledger.specs.Row.{units, credit, since, start, many, cell_count}
 use Rattle.ledger.specs.Range.{units_over, full_of, credit_over, tiles_off, times_over, out_of_range, unloaded}
 use Rattle.ledger.specs.Answers.{answer_of, said_of}
 use Rattle.row.specs.Fresh.{table, fresh_cell, fresh_of, no_ledger, Freshened, Filling}

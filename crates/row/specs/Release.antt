@@ -6,7 +6,6 @@ use Rattle.ledger.specs.declared.Answer.{Answer}
 use Rattle.ledger.specs.Row.{units, many, cell, put}
 use Rattle.ledger.specs.Range.{standing}
 use Rattle.ledger.specs.Stands.{Stands}
-use Rattle.ledger.specs.Laws.{stands}
 use Rattle.ledger.specs.Answers.{answer_of, said_of}
 
 -- 36, 37; 0 where neither refuses

@@ -1,7 +1,7 @@
 -- One more frame can be counted, and can be still once a plan has been carried out.
 use Rattle.std.specs.Prelude.{◌≡◌, refl, List, ℕ, ◌<◌}
 use Rattle.std.proofs.Common.{sym, ◌∙◌, ap, subst}
-use Rattle.ledger.specs.Row.{units, credit, frames, drops, octets, dropped, many}
+use Rattle.ledger.specs.Row.{units, credit, frames, many}
 use Rattle.ledger.specs.Laws.{cells}
 use Rattle.ledger.specs.Stands.{Counted}
 use Rattle.spend.specs.declared.Counts.{Counts}

@@ -1,7 +1,6 @@
 -- That the code's steps come to what a plan carried out is.
 use Rattle.std.specs.Prelude.{◌≡◌, refl, List, ℕ}
 use Rattle.std.proofs.Common.{sym, ◌∙◌, ap, subst}
-use Rattle.ledger.specs.Row.{units, credit}
 use Rattle.spend.specs.declared.Spent.{Spent}
 use Rattle.plan.specs.declared.Course.{Course}
 use Rattle.plan.specs.declared.Planned.{Planned}

@@ -3,7 +3,6 @@ use mathlib.Core.Bool.{Bool, false}
 use Prim.Native.Nat.{ℕ, ◌+◌, ◌-◌, ◌≤◌}
 use native.Mathlib.Nat.{le_refl}
 use native.Mathlib.Omega.{arith}
-use borrow.Author.Rules.{rules}
 use Rattle.laws.specs.Scan.{some_below}
 use Rattle.laws.specs.ScanLaws.{some_none}
 use Rattle.image.specs.Layout.{image_in}

@@ -1,16 +1,11 @@
 -- `addresses::next_like`: no entry of the groups that the loop has passed is like the address.
-use mathlib.Core.Path.{◌≡◌, sym, ◌∙◌, ap}
-use mathlib.Core.Bool.{Bool, false}
-use Prim.Native.Nat.{ℕ, ◌+◌, ◌-◌, ◌≤◌}
-use native.Mathlib.Nat.{le_refl}
-use native.Mathlib.Omega.{arith}
-use borrow.Author.Rules.{rules}
+use mathlib.Core.Path.{◌≡◌}
+use mathlib.Core.Bool.{false}
+use Prim.Native.Nat.{◌-◌, ◌≤◌}
 use Rattle.laws.specs.Scan.{some_below}
-use Rattle.laws.specs.ScanLaws.{some_none}
 use Rattle.image.specs.Layout.{image_in}
 use Rattle.addresses.specs.Address.{like_address}
 use Rattle.lookup.specs.Groups.{from}
-use Rattle.lookup.specs.GroupsLaws.{none_further, not_none}
 use Rattle.addresses.proofs.next_like.Given as goal
 
 abbrev pub invariant-loop-j : goal.invariant-loop-j

@@ -1,13 +1,7 @@
-use mathlib.Core.Path.{◌≡◌, refl, sym, ◌∙◌}
-use mathlib.Core.Bool.{false}
-use Prim.Native.Nat.{◌-◌, ◌≤◌}
+use mathlib.Core.Path.{refl, sym, ◌∙◌}
 use native.Mathlib.Omega.{arith}
 use borrow.Author.Rules.{rules}
-use Rattle.laws.specs.Scan.{some_below}
-use Rattle.laws.specs.ScanLaws.{some_none, some_not, some_found, some_end, part_inside}
-use Rattle.image.specs.Layout.{image_in}
-use Rattle.addresses.specs.Address.{bars}
-use Rattle.lookup.specs.Groups.{from}
+use Rattle.laws.specs.ScanLaws.{some_none, some_not, some_found, some_end}
 use Rattle.addresses.proofs.one_bars.Goals as goal
 
 pub loop-k-init : goal.loop-k-init

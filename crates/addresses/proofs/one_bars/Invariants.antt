@@ -1,11 +1,8 @@
 -- `addresses::one_bars`: none of the entries that the loop has passed bars the source.
-use mathlib.Core.Path.{◌≡◌, refl, sym, ◌∙◌}
+use mathlib.Core.Path.{◌≡◌}
 use mathlib.Core.Bool.{false}
 use Prim.Native.Nat.{◌-◌, ◌≤◌}
-use native.Mathlib.Omega.{arith}
-use borrow.Author.Rules.{rules}
 use Rattle.laws.specs.Scan.{some_below}
-use Rattle.laws.specs.ScanLaws.{some_none, some_not, some_found, some_end, part_inside}
 use Rattle.image.specs.Layout.{image_in}
 use Rattle.addresses.specs.Address.{bars}
 use Rattle.lookup.specs.Groups.{from}

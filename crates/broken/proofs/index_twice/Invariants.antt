@@ -1,12 +1,8 @@
 -- `broken::index_twice`: what the marks say after each turn is a law of the scan.
 use mathlib.Core.List.{List}
 use Prim.Native.Nat.{ℕ, ◌-◌, ◌≤◌}
-use borrow.Author.Rules.{rules}
-use Rattle.laws.specs.Chain.{lt_of}
 use Rattle.laws.specs.Scan.{Counting}
-use Rattle.laws.specs.ScanLaws.{counting_none, counting_more, counting_end}
 use Rattle.image.specs.Layout.{image_in}
-use Rattle.image.specs.SoundLaws.{held}
 use Rattle.fields.specs.Fields.{index}
 use Rattle.broken.proofs.index_twice.Given as goal
 

@@ -1,12 +1,12 @@
 use mathlib.Core.Path.{◌≡◌, sym, ◌∙◌}
 use mathlib.Core.Bool.{Bool, true, false}
 use mathlib.Core.List.{List}
-use Prim.Native.Nat.{ℕ, ◌+◌, ◌-◌, ◌<◌, ◌≤◌}
+use Prim.Native.Nat.{ℕ, ◌+◌, ◌<◌}
 use borrow.Author.Rules.{rules}
 use Rattle.laws.specs.Chain.{lt_of}
 use Rattle.laws.specs.Scan.{some_below}
 use Rattle.laws.specs.ScanLaws.{some_none, some_not, some_found, some_end}
-use Rattle.image.specs.Layout.{image_in, count_of}
+use Rattle.image.specs.Layout.{count_of}
 use Rattle.image.specs.SoundLaws.{held}
 use Rattle.image.specs.declared.tables.Table.TheVariants.{Retagging}
 use Rattle.broken.specs.Broken.{stray, retag_stray}

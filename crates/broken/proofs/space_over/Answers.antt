@@ -1,12 +1,11 @@
 use mathlib.Core.Path.{◌≡◌, sym, ◌∙◌, ap}
 use mathlib.Core.List.{List}
-use Prim.Native.Nat.{ℕ, ◌+◌, ◌-◌, ◌*◌, ◌≤◌}
+use Prim.Native.Nat.{ℕ, ◌+◌}
 use native.Mathlib.Nat.{le_antisymm}
 use borrow.Author.Rules.{rules}
 use Rattle.laws.specs.Chain.{lt_of}
 use Rattle.laws.specs.Scan.{total}
 use Rattle.laws.specs.ScanLaws.{total_none, total_more}
-use Rattle.image.specs.Layout.{image_in}
 use Rattle.image.specs.SoundLaws.{held}
 use Rattle.fields.specs.Fields.{part_spc}
 use Rattle.broken.proofs.space_over.Invariants.{space}

@@ -1,7 +1,7 @@
 use mathlib.Core.Path.{◌≡◌, sym, ◌∙◌, ap}
-use mathlib.Core.Bool.{Bool, true, false}
+use mathlib.Core.Bool.{true, false}
 use mathlib.Core.List.{List}
-use Prim.Native.Nat.{ℕ, ◌+◌, ◌-◌, ◌≤◌, ◌<◌}
+use Prim.Native.Nat.{ℕ, ◌+◌, ◌≤◌, ◌<◌}
 use native.Mathlib.Nat.{lt_of_lt_of_le}
 use lib.Dec.{eqb}
 use lib.ListN.{length, get_or}
@@ -10,7 +10,7 @@ use borrow.Author.Tests.{eq-eqb, ne_eqb}
 use Rattle.laws.specs.Chain.{lt_of}
 use Rattle.laws.specs.Scan.{some_below, Marks}
 use Rattle.laws.specs.ScanLaws.{some_none, some_not, some_found, some_end}
-use Rattle.image.specs.Layout.{image_in, count_of}
+use Rattle.image.specs.Layout.{count_of}
 use Rattle.image.specs.SoundLaws.{held}
 use Rattle.image.specs.declared.tables.Table.TheVariants.{VlanLookup}
 use Rattle.fields.specs.Fields.{vlanid, port_vlanid}

@@ -1,14 +1,9 @@
 -- `broken::vlans_seen`: what the marks say after each turn is a law of the scan.
 use mathlib.Core.List.{List}
 use Prim.Native.Nat.{ℕ, ◌-◌, ◌≤◌}
-use borrow.Author.Rules.{rules}
-use Rattle.laws.specs.Chain.{lt_of}
 use Rattle.laws.specs.Scan.{Counting}
-use Rattle.laws.specs.ScanLaws.{counting_none, counting_more}
 use Rattle.image.specs.Layout.{image_in}
-use Rattle.image.specs.SoundLaws.{held}
 use Rattle.fields.specs.Fields.{vlanid}
-use Rattle.broken.specs.PassesLaws.{counting_whole}
 use Rattle.broken.proofs.vlans_seen.Given as goal
 
 abbrev pub value : List ℕ → ℕ → ℕ

@@ -1,9 +1,7 @@
 -- `crc::bits_out` meets its contract. The loop's invariant: what the bits still to leave make of x is what all of them make of the register.
-use mathlib.Core.Path.{◌≡◌, ◌∙◌}
-use Prim.Native.Nat.{ℕ, suc, ◌+◌, ◌-◌, ◌≤◌, ◌<◌}
-use native.Mathlib.Omega.{arith}
-use borrow.Author.Rules.{rules}
-use Rattle.crc.specs.Crc.{bit, bits_out}
+use mathlib.Core.Path.{◌≡◌}
+use Prim.Native.Nat.{◌-◌, ◌≤◌}
+use Rattle.crc.specs.Crc.{bits_out}
 use Rattle.crc.proofs.bits_out.Given as goal
 
 abbrev pub invariant-loop-i : goal.invariant-loop-i

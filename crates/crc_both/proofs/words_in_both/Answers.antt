@@ -1,8 +1,4 @@
-use mathlib.Core.Path.{◌≡◌}
-use Prim.Native.Nat.{◌-◌}
 use borrow.Author.Rules.{rules}
-use lib.ListN.{length, drop}
-use Rattle.crc.specs.Crc.{words_in}
 use Rattle.crc.specs.Laws.{words_in_more, words_in_done}
 use Rattle.crc_both.proofs.words_in_both.Goals as goal
 

@@ -1,10 +1,8 @@
 -- `crc_both::words_in_both` meets its contract. The loop's invariant: what is left of the words makes of each register of x what all of them make of the one that came.
 use mathlib.Core.Path.{◌≡◌}
 use Prim.Native.Nat.{◌-◌}
-use borrow.Author.Rules.{rules}
 use lib.ListN.{length, drop}
 use Rattle.crc.specs.Crc.{words_in}
-use Rattle.crc.specs.Laws.{words_in_more, words_in_done}
 use Rattle.crc_both.proofs.words_in_both.Given as goal
 
 abbrev pub invariant-loop-i : goal.invariant-loop-i

@@ -2,7 +2,6 @@
 use mathlib.Core.Path.{ap₂}
 use lib.Bits.{bit_xor}
 use Rattle.crc.specs.Four.{rest}
-use borrow.Author.Rules.{rules}
 use Rattle.crc_long.proofs.others.Goals as goal
 
 pub returns : goal.returns

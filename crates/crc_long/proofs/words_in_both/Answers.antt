@@ -1,7 +1,3 @@
-use mathlib.Core.Path.{◌≡◌}
-use Prim.Native.Nat.{◌-◌, ◌≤◌}
-use lib.ListN.{length, drop}
-use Rattle.crc.specs.Crc.{words_in}
 use Rattle.crc.specs.FourLaws.{turn_more}
 use Rattle.crc.specs.Laws.{words_in_rest}
 use borrow.Author.Rules.{rules}

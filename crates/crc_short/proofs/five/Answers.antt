@@ -1,14 +1,8 @@
 use mathlib.Core.Path.{◌≡◌, refl, ◌∙◌}
-use mathlib.Core.List.{[], ◌∷◌}
-use Prim.Native.Nat.{ℕ, suc, ◌-◌, ◌≤◌}
 use native.Mathlib.Numerals.{add-one}
 use native.Mathlib.Omega.{arith}
 use borrow.Author.Rules.{rules}
-use lib.ListN.{get_or}
-use Rattle.crc.specs.Crc.{bits_out}
-use Rattle.crc_short_bytes.specs.Twice.{twice}
 use Rattle.crc_short.specs.Turn.{reach}
-use Rattle.crc_short.proofs.five.Invariants.{stands}
 use Rattle.crc_short.proofs.five.Goals as goal
 
 pub loop-k-init : goal.loop-k-init

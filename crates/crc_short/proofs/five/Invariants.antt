@@ -1,11 +1,8 @@
 -- `crc_short::five` meets its contract. The loop's invariant: f, g, h, i, j and what a', b', c', d' leave stand from place k on in five zeros, what
 -- a, b, c and d leave, and what e leaves without end.
-use mathlib.Core.Path.{◌≡◌, refl, ◌∙◌}
+use mathlib.Core.Path.{◌≡◌}
 use mathlib.Core.List.{[], ◌∷◌}
 use Prim.Native.Nat.{ℕ, suc, ◌-◌, ◌≤◌}
-use native.Mathlib.Numerals.{add-one}
-use native.Mathlib.Omega.{arith}
-use borrow.Author.Rules.{rules}
 use lib.ListN.{get_or}
 use Rattle.crc.specs.Crc.{bits_out}
 use Rattle.crc_short_bytes.specs.Twice.{twice}

@@ -1,17 +1,8 @@
 -- `crc_short::kept` meets its contract. The loop's invariant: j bytes of the word are taken, and what they leave, by the number kept at place k, is in `left`.
-use mathlib.Core.Path.{◌≡◌, ◌∙◌}
-use mathlib.Core.Logic.{⊎_elim}
-use Prim.Native.Nat.{ℕ, ◌+◌, ◌-◌, ◌*◌, ◌/◌, ◌%◌}
-use native.Mathlib.Omega.{arith}
-use borrow.Author.Rules.{rules}
-use lib.Bits.{bit_xor}
-use Rattle.crc.specs.Crc.{bits_out}
+use Prim.Native.Nat.{◌-◌}
 use Rattle.crc.specs.Bytes.{Taken}
-use Rattle.crc.specs.BytesLaws.{taken_none, taken_more, taken_all}
 use Rattle.crc_short_bytes.specs.Twice.{twice}
-use Rattle.crc_short_bytes.specs.ArmLaws.{halves}
 use Rattle.crc_short.specs.Turn.{reach}
-use Rattle.crc_short.specs.TurnLaws.{reach_far, reach_near}
 use Rattle.crc_short.proofs.kept.Given as goal
 
 abbrev pub invariant-loop-j : goal.invariant-loop-j

@@ -3,9 +3,6 @@ use mathlib.Core.Path.{◌≡◌}
 use Prim.Native.Nat.{◌-◌, ◌≤◌}
 use lib.ListN.{length, drop}
 use Rattle.crc.specs.Crc.{words_in}
-use Rattle.crc.specs.FourLaws.{turn_more}
-use Rattle.crc.specs.Laws.{words_in_rest}
-use borrow.Author.Rules.{rules}
 use Rattle.crc_short.proofs.words_in_both.Given as goal
 
 abbrev pub invariant-loop-i : goal.invariant-loop-i

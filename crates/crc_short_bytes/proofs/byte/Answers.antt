@@ -2,7 +2,6 @@
 use mathlib.Core.Path.{◌≡◌, refl}
 use mathlib.Core.List.{List, [], ◌∷◌}
 use Prim.Native.Nat.{ℕ, ◌+◌, ◌<◌}
-use borrow.Author.Rules.{rules}
 use lib.Dec.{T, eqb, lit<}
 use Rattle.crc.specs.Crc.{bit, bits_out}
 use Rattle.crc_short_bytes.specs.Twice.{twice}

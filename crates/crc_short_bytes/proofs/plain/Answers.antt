@@ -1,5 +1,4 @@
 -- `crc_short_bytes::plain` meets its contract: the two halves are what the two runs of the plain loop give.
-use borrow.Author.Rules.{rules}
 use Rattle.crc_short_bytes.specs.TwiceLaws.{twice_of}
 use Rattle.crc_short_bytes.proofs.plain.Goals as goal
 

@@ -1,14 +1,6 @@
 -- `crc_word::leaves` meets its contract. The loop's invariant: j bytes of the word are taken, and what they leave is in `left`.
-use mathlib.Core.Path.{◌≡◌, ◌∙◌}
-use mathlib.Core.Logic.{⊎_elim}
-use Prim.Native.Nat.{ℕ, ◌+◌, ◌-◌, ◌*◌, ◌/◌, ◌%◌}
-use native.Mathlib.Omega.{arith}
-use borrow.Author.Rules.{rules}
-use lib.Bits.{bit_xor}
-use Rattle.crc.specs.Crc.{bits_out}
-use Rattle.crc.specs.ArmLaws.{itself}
+use Prim.Native.Nat.{◌-◌}
 use Rattle.crc.specs.Bytes.{Taken}
-use Rattle.crc.specs.BytesLaws.{taken_none, taken_more, taken_all}
 use Rattle.crc_word.proofs.leaves.Given as goal
 
 abbrev pub invariant-loop-j : goal.invariant-loop-j

@@ -1,11 +1,8 @@
 -- `crc_word::word_in_both` meets its contract. The loop's invariant goes by its turns: which register is next, and what those before it left.
-use mathlib.Core.Path.{◌≡◌, refl, sym, ap, ◌∙◌}
-use Prim.Native.Nat.{ℕ, zero, suc, ◌+◌, ◌-◌, ◌≤◌, ◌<◌, ◌^◌}
-use native.Mathlib.Omega.{arith}
-use borrow.Author.Rules.{rules}
+use mathlib.Core.Path.{◌≡◌}
+use Prim.Native.Nat.{ℕ, zero, suc, ◌-◌}
 use lib.Bits.{bit_xor}
-use Rattle.crc.specs.Crc.{bits_out, word_in}
-use Rattle.crc.specs.Laws.{word_in_bits}
+use Rattle.crc.specs.Crc.{bits_out}
 use Rattle.crc_word.proofs.word_in_both.Given as goal
 
 -- after k turns, x being the first register met by the word and y the second

@@ -1,6 +1,5 @@
 -- `flat_answers::flat_shown`: the kind of each tile, and the bits of shares.
 use mathlib.Core.Path.{sym, ap, ◌∙◌}
-use borrow.Author.Rules.{rules}
 use Rattle.flat_answers.specs.Answers.{flat_shown}
 use Rattle.flat_answers.specs.AnswersLaws.{shown_as}
 use Rattle.flat_answers.proofs.flat_shown.Goals as goal

@@ -1,6 +1,5 @@
 -- `flat_answers::flat_tile`: refused, or what the tile shows.
 use mathlib.Core.Path.{sym, ap}
-use borrow.Author.Rules.{rules}
 use Rattle.flat_answers.specs.Answers.{flat_tile}
 use Rattle.flat_answers.proofs.flat_tile.Goals as goal
 

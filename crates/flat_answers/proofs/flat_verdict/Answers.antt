@@ -1,6 +1,5 @@
 -- `flat_answers::flat_verdict`: by the three cases of a verdict.
 use mathlib.Core.Path.{sym, ap}
-use borrow.Author.Rules.{rules}
 use Rattle.flat_answers.specs.Answers.{flat_verdict}
 use Rattle.flat_answers.proofs.flat_verdict.Goals as goal
 

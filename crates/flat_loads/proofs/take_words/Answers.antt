@@ -1,5 +1,4 @@
 -- `flat_loads::take_words`: the words stored, and the state moved over them.
-use borrow.Author.Rules.{rules}
 use Rattle.flat_loads.proofs.Laws.{takes}
 use Rattle.flat_loads.proofs.take_words.Goals as goal
 

@@ -1,5 +1,4 @@
 -- `flat_loads::write`: where the words have a place they are taken there, else the write is any.
-use borrow.Author.Rules.{rules}
 use Rattle.flat_loads.proofs.Laws.{fits_word, fits_words, writes_word, writes_words}
 use Rattle.flat_loads.proofs.write.Goals as goal
 

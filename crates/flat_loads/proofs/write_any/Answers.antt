@@ -1,5 +1,4 @@
 -- `flat_loads::write_any`: 31, 30 for numbers that no load state has, then the write to the state, which is stored in its numbers.
-use borrow.Author.Rules.{rules}
 use Rattle.flat_loads.proofs.Laws.{writes_31, writes_30, writes_on}
 use Rattle.flat_loads.proofs.write_any.Goals as goal
 

@@ -2,7 +2,6 @@
 use mathlib.Core.Path.{sym}
 use native.Mathlib.Omega.{arith}
 use lib.ListN.{get_or-eq_default}
-use borrow.Author.Rules.{rules}
 use Rattle.stream.specs.declared.Phase.TheVariants.{Told}
 use Rattle.flat_numbers.specs.Flat.{phases}
 use Rattle.flat_numbers.proofs.phase_of.Goals as goal

@@ -1,5 +1,4 @@
 -- `flat_states::load_in`: each field is a number or its half.
-use borrow.Author.Rules.{rules}
 use Rattle.flat_states.proofs.Laws.{load_as}
 use Rattle.flat_states.proofs.load_in.Goals as goal
 

@@ -1,6 +1,5 @@
 -- `flat_states::move_on`: four stores behind the first two numbers.
 use mathlib.Core.Path.{ap}
-use borrow.Author.Rules.{rules}
 use Rattle.flat_numbers.specs.Flat.{moved}
 use Rattle.flat_states.proofs.move_on.Goals as goal
 

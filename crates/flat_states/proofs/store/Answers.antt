@@ -1,6 +1,5 @@
 -- `flat_states::store`: six stores.
 use mathlib.Core.Path.{◌∙◌, ap}
-use borrow.Author.Rules.{rules}
 use Rattle.flat_numbers.specs.Flat.{joined}
 use Rattle.flat_states.proofs.Laws.{stored_as}
 use Rattle.flat_states.proofs.store.Goals as goal

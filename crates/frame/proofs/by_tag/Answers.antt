@@ -1,5 +1,4 @@
 -- `frame::by_tag`: by the tag's case.
-use borrow.Author.Rules.{rules}
 use mathlib.Core.Path.{refl, sym, ap, ◌∙◌}
 use Rattle.image.specs.Layout.{image_in}
 use Rattle.frame.specs.Intake.{by_tag}

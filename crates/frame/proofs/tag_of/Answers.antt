@@ -1,5 +1,4 @@
 -- `frame::tag_of`: bytes 12 and 13, then the two bytes behind them.
-use borrow.Author.Rules.{rules}
 use mathlib.Core.Path.{ap, refl, ◌∙◌}
 use Prim.Native.Nat.{ℕ, ◌/◌, ◌%◌}
 use Rattle.laws.specs.Chain.{hit_eq, pass_eq, of_eq, of_ne}

@@ -1,5 +1,4 @@
 -- `frame::take_in`: 1, 2, then by the tag.
-use borrow.Author.Rules.{rules}
 use mathlib.Core.Path.{ap, ◌∙◌}
 use Rattle.laws.specs.Chain.{hit_lt, pass_lt, hit_eq, pass_eq, of_eq, of_ne}
 use Rattle.image.specs.Layout.{image_in}

@@ -1,5 +1,4 @@
 -- `frame::untagged`: DRPUNTAG, or the port's VLANID and VLANPRIO.
-use borrow.Author.Rules.{rules}
 use Rattle.laws.specs.Chain.{hit_ne, pass_ne, of_eq, of_ne}
 use Rattle.frame.specs.Laws.{same_taken}
 use Rattle.frame.proofs.untagged.Goals as goal

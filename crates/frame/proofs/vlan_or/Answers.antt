@@ -1,5 +1,4 @@
 -- `frame::vlan_or`: the tag's VLAN, or the port's.
-use borrow.Author.Rules.{rules}
 use mathlib.Core.Path.{refl, ◌∙◌}
 use Rattle.laws.specs.Chain.{hit_eq, pass_eq}
 use Rattle.frame.proofs.vlan_or.Goals as goal

@@ -1,12 +1,11 @@
 use mathlib.Core.Path.{◌≡◌, refl, ap, subst, ◌∙◌}
 use mathlib.Core.List.{List, ◌++◌}
-use Prim.Native.Nat.{ℕ, ◌-◌, ◌≤◌, zero-le}
+use Prim.Native.Nat.{ℕ, zero-le}
 use native.Mathlib.Nat.{le_antisymm}
 use native.Mathlib.Omega.{arith}
-use lib.ListN.{length, set, drop, replicate, length-set}
+use lib.ListN.{set, drop, replicate, length-set}
 use borrow.Author.Fill.{fill_more}
-use borrow.Author.Rules.{rules}
-use Rattle.image.specs.Layout.{image_words, cleared}
+use Rattle.image.specs.Layout.{cleared}
 use Rattle.image.proofs.clear.Goals as goal
 
 pub loop-i-init : goal.loop-i-init

@@ -1,13 +1,9 @@
 -- `image::clear`: the first i words are 0, the others are as they were.
-use mathlib.Core.Path.{◌≡◌, refl, ap, subst, ◌∙◌}
-use mathlib.Core.List.{List, ◌++◌}
-use Prim.Native.Nat.{ℕ, ◌-◌, ◌≤◌, zero-le}
-use native.Mathlib.Nat.{le_antisymm}
-use native.Mathlib.Omega.{arith}
-use lib.ListN.{length, set, drop, replicate, length-set}
-use borrow.Author.Fill.{fill_more}
-use borrow.Author.Rules.{rules}
-use Rattle.image.specs.Layout.{image_words, cleared}
+use mathlib.Core.Path.{◌≡◌}
+use mathlib.Core.List.{◌++◌}
+use Prim.Native.Nat.{◌-◌, ◌≤◌}
+use lib.ListN.{length, drop, replicate}
+use Rattle.image.specs.Layout.{image_words}
 use Rattle.image.proofs.clear.Given as goal
 
 abbrev pub invariant-loop-i : goal.invariant-loop-i

@@ -2,7 +2,6 @@
 use mathlib.Core.Path.{ap}
 use Prim.Native.Nat.{ℕ, ◌+◌}
 use lib.ListN.{set}
-use borrow.Author.Rules.{rules}
 use Rattle.image.specs.Layout.{entry_words}
 use Rattle.image.proofs.set_count.Goals as goal
 

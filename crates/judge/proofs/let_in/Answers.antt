@@ -1,6 +1,5 @@
 -- `judge::let_in`: by the answer of 7 and 8.
 use mathlib.Core.Path.{sym, subst, ◌∙◌}
-use borrow.Author.Rules.{rules}
 use Rattle.image.specs.Layout.{image_in}
 use Rattle.plan.specs.Sane.{Loaded}
 use Rattle.plan.specs.Laws.{policed}

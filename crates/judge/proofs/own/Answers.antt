@@ -2,7 +2,6 @@
 use mathlib.Core.Path.{subst}
 use Prim.Native.Nat.{ℕ, ◌+◌, ◌≤◌}
 use native.Mathlib.Omega.{arith}
-use borrow.Author.Rules.{rules}
 use Rattle.image.specs.Layout.{image_in}
 use Rattle.plan.specs.LetIn.{Through}
 use Rattle.judge.specs.Laws.{is_dropped, is_let_in}

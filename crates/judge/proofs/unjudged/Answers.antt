@@ -1,5 +1,4 @@
 -- `judge::unjudged`: 33, 34, 35, 38, in this order.
-use native.Mathlib.Omega.{arith}
 use Rattle.laws.specs.Chain.{chain}
 use Rattle.judge.proofs.unjudged.Goals as goal
 

@@ -1,5 +1,4 @@
 -- `loaded::counts`: the count that was read is the image's.
-use borrow.Author.Rules.{rules}
 use mathlib.Core.Path.{ap}
 use Prim.Native.Nat.{ℕ}
 use lib.Dec.{eqb}

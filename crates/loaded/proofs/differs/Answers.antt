@@ -1,5 +1,4 @@
 -- `loaded::differs`: the count that was read is the image's.
-use borrow.Author.Rules.{rules}
 use mathlib.Core.Path.{ap}
 use mathlib.Core.Bool.{not}
 use Prim.Native.Nat.{ℕ}

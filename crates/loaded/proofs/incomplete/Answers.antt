@@ -1,5 +1,4 @@
 -- `loaded::incomplete`: rule 20's tests, in its order.
-use borrow.Author.Rules.{rules}
 use Rattle.laws.specs.Chain.{flags}
 use Rattle.image.specs.Loaded.{incomplete}
 use Rattle.loaded.proofs.incomplete.Goals as goal

@@ -1,9 +1,8 @@
 use mathlib.Core.Path.{◌≡◌, refl, sym, ◌∙◌, ap}
-use mathlib.Core.Bool.{Bool, false}
+use mathlib.Core.Bool.{Bool}
 use mathlib.Core.List.{List}
-use Prim.Native.Nat.{ℕ, ◌-◌, ◌≤◌}
+use Prim.Native.Nat.{ℕ}
 use borrow.Author.Rules.{rules}
-use Rattle.laws.specs.Scan.{some_below}
 use Rattle.laws.specs.ScanLaws.{some_none, some_not, some_found, some_end}
 use Rattle.image.specs.Rows.{table_count, row_at}
 use Rattle.image.specs.Layout.{image_in}

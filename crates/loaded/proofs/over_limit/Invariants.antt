@@ -1,15 +1,12 @@
 -- `loaded::over_limit`: no row that the loop has passed has a count above its limit.
-use mathlib.Core.Path.{◌≡◌, refl, sym, ◌∙◌, ap}
+use mathlib.Core.Path.{◌≡◌}
 use mathlib.Core.Bool.{Bool, false}
 use mathlib.Core.List.{List}
 use Prim.Native.Nat.{ℕ, ◌-◌, ◌≤◌}
-use borrow.Author.Rules.{rules}
 use Rattle.laws.specs.Scan.{some_below}
-use Rattle.laws.specs.ScanLaws.{some_none, some_not, some_found, some_end}
 use Rattle.image.specs.Rows.{table_count, row_at}
 use Rattle.image.specs.Layout.{image_in}
-use Rattle.image.specs.Loaded.{above, over_limit}
-use Rattle.image.specs.declared.tables.Table.{Table}
+use Rattle.image.specs.Loaded.{above}
 use Rattle.loaded.proofs.over_limit.Given as goal
 
 abbrev pub over : List ℕ → ℕ → Bool

@@ -1,14 +1,9 @@
 -- `loader::run`: what is left of the machine's run is the whole run.
-use mathlib.Core.Path.{◌≡◌, refl, sym, ◌∙◌, subst}
-use Prim.Native.Nat.{◌-◌, ◌≤◌, zero-le}
-use native.Mathlib.Omega.{arith}
+use mathlib.Core.Path.{◌≡◌}
+use Prim.Native.Nat.{◌-◌, ◌≤◌}
 use lib.ListN.{length, drop}
-use borrow.Author.Rules.{rules}
-use Rattle.stream.specs.Machine.{Machine, at, run}
+use Rattle.stream.specs.Machine.{at, run}
 use Rattle.stream.specs.Fine.{Fine}
-use Rattle.stream.specs.FineLaws.{step_fine}
-use Rattle.stream.proofs.StatesLaws.{leaves_at, at_leaves}
-use Rattle.loader.proofs.Laws.{one_more, run_end}
 use Rattle.loader.proofs.run.Given as goal
 
 abbrev pub invariant-loop-i : goal.invariant-loop-i

@@ -1,6 +1,5 @@
 -- `loader::step`: by the phase.
 use mathlib.Core.Path.{refl, ◌∙◌, ap, subst}
-use borrow.Author.Rules.{rules}
 use Rattle.stream.proofs.StatesLaws.{so}
 use Rattle.loader.proofs.Laws.{at_phase}
 use Prim.Native.Nat.{ℕ}

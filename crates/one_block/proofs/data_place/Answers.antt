@@ -1,15 +1,14 @@
 -- `one_block::data_place`: its tests in the definition's order, then the place.
-use mathlib.Core.Path.{◌≡◌, sym, ◌∙◌, ap}
+use mathlib.Core.Path.{sym, ◌∙◌, ap}
 use Prim.Native.Nat.{ℕ, ◌+◌, ◌≤◌}
 use native.Mathlib.Nat.{mul-le-mul_right}
 use native.Mathlib.Omega.{arith}
 use borrow.Author.Rules.{rules}
 use borrow.Author.Tests.{ltb-false}
 use Rattle.laws.specs.Chain.{hit, pass, pass_lt, chain}
-use Rattle.image.specs.Layout.{entry_words, image_in}
+use Rattle.image.specs.Layout.{image_in}
 use Rattle.image.specs.Rows.{size_of}
 use Rattle.image.specs.SoundLaws.{within_limits}
-use Rattle.stream.specs.Machine.{beyond}
 use Rattle.one_block.specs.Data.{data_place}
 use Rattle.placing.proofs.RefusalLaws.{beyond_is}
 use Rattle.one_block.proofs.data_place.Goals as goal

@@ -2,7 +2,6 @@
 use mathlib.Core.Path.{refl}
 use native.Mathlib.Nat.{mul_comm}
 use native.Mathlib.Omega.{arith}
-use borrow.Author.Rules.{rules}
 use Rattle.image.specs.Rows.{size_of, most_of}
 use Rattle.image.specs.RowLaws.{room_inside}
 use Rattle.stream.proofs.StatesLaws.{so}

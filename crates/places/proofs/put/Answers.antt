@@ -1,5 +1,4 @@
 -- `places::put`: by the verdict's case.
-use borrow.Author.Rules.{rules}
 use Rattle.places.specs.PlacesLaws.{put_refused, put_dropped, put_sent}
 use Rattle.places.proofs.put.Goals as goal
 

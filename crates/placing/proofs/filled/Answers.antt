@@ -1,6 +1,5 @@
 -- `placing::filled`: 7, the count raised, or a word stored.
 use mathlib.Core.Path.{refl}
-use borrow.Author.Rules.{rules}
 use Rattle.stream.proofs.StatesLaws.{so}
 use Rattle.placing.proofs.Laws.{filled_7, filled_sum, filled_word}
 use Rattle.placing.proofs.filled.Goals as goal

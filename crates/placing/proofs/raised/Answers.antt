@@ -1,8 +1,5 @@
 -- `placing::raised`: what 30 asked keeps the count within its limit.
-use Prim.Native.Nat.{◌≤◌, ◌+◌, ◌/◌}
 use native.Mathlib.Omega.{arith}
-use borrow.Author.Rules.{rules}
-use Rattle.image.specs.Layout.{entry_words}
 use Rattle.placing.proofs.Laws.{raised_bound, raised_is}
 use Rattle.placing.proofs.raised.Goals as goal
 

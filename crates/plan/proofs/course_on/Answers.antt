@@ -1,6 +1,4 @@
 -- `plan::course_on`: the fields that were read are the course's.
-use Rattle.image.specs.SoundLaws.{held}
-use Rattle.image.specs.declared.tables.Table.TheVariants.{Policing}
 use Rattle.plan.specs.Laws.{same_course}
 use Rattle.plan.proofs.course_on.Goals as goal
 

@@ -1,7 +1,5 @@
 -- `plan::metered`: 7 for the meter's entry, then 8.
 use mathlib.Core.Path.{refl}
-use Rattle.image.specs.SoundLaws.{held}
-use Rattle.image.specs.declared.tables.Table.TheVariants.{Policing}
 use Rattle.laws.specs.Chain.{hit_le, pass_le, hit_lt, pass_lt, of_lt, of_le, le_of, lt_of}
 use Rattle.plan.proofs.metered.Goals as goal
 

@@ -1,6 +1,4 @@
 -- `ports::ports`: every cut.
-use Rattle.image.specs.SoundLaws.{held, domain_held}
-use Rattle.image.specs.declared.tables.Table.TheVariants.{VlanLookup}
 use Rattle.ports.specs.Ports.{ports_of}
 use Rattle.ports.specs.Laws.{same_cut}
 use Rattle.ports.proofs.ports.Goals as goal

@@ -1,5 +1,4 @@
 -- `ports::queue`: VLAN_PMAP(e) of entry 5 + q, or 0 where the frame is not sent.
-use borrow.Author.Rules.{rules}
 use mathlib.Core.Path.{refl, ◌∙◌}
 use Rattle.laws.specs.Chain.{hit, pass}
 use Rattle.ports.proofs.queue.Goals as goal

@@ -1,12 +1,10 @@
 -- `ports::send`: the new priority, the tags and the five queues.
 use mathlib.Core.Path.{ap, ◌∙◌}
-use Prim.Native.Nat.{ℕ, ◌<◌}
+use Prim.Native.Nat.{ℕ}
 use borrow.Author.Rules.{rules}
 use lib.Bits.{bit_and}
 use lib.Dec.{lit<}
 use Rattle.image.specs.Layout.{image_in}
-use Rattle.image.specs.SoundLaws.{held, domain_held}
-use Rattle.image.specs.declared.tables.Table.TheVariants.{VlanLookup}
 use Rattle.ports.specs.Ports.{sending_at, sending_of}
 use Rattle.ports.specs.Laws.{same_sending}
 use Rattle.ports.proofs.send.Goals as goal

@@ -3,8 +3,6 @@ use mathlib.Core.Path.{◌≡◌, sym, ◌∙◌}
 use Prim.Native.Nat.{ℕ, ◌<◌, ◌≤◌}
 use native.Mathlib.Omega.{arith}
 use Rattle.laws.specs.Chain.{hit_eq, pass_eq}
-use Rattle.image.specs.SoundLaws.{held, domain_held}
-use Rattle.image.specs.declared.tables.Table.TheVariants.{AddressLookup}
 use Rattle.ports.proofs.towards.Goals as goal
 
 -- at most the count, and not the count

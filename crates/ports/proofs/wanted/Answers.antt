@@ -4,8 +4,7 @@ use Prim.Native.Nat.{ℕ}
 use lib.Bits.{bit_and}
 use Rattle.laws.specs.Chain.{hit_eq, pass_eq}
 use Rattle.image.specs.Layout.{image_in}
-use Rattle.image.specs.SoundLaws.{held, domain_held}
-use Rattle.image.specs.declared.tables.Table.TheVariants.{AddressLookup, VlanLookup, LookupParameters}
+use Rattle.image.specs.declared.tables.Table.TheVariants.{AddressLookup, LookupParameters}
 use Rattle.ports.specs.Ports.{towards, wanted_of}
 use Rattle.ports.proofs.wanted.Goals as goal
 

@@ -1,5 +1,4 @@
 -- `quick::data_run`: the sums by the short tables.
-use borrow.Author.Rules.{rules}
 use Rattle.quick.proofs.data_run.Goals as goal
 
 pub stored-requires : goal.stored-requires

@@ -1,7 +1,6 @@
 -- `records::frame_at`: the head, then the bytes.
 use Prim.Native.Nat.{ℕ, ◌+◌, ◌-◌, ◌≤◌}
 use native.Mathlib.Omega.{arith}
-use borrow.Author.Rules.{rules}
 use Rattle.laws.specs.Chain.{hit_lt, pass_lt, lt_of, of_le}
 use Rattle.records.specs.List.{frame_at}
 use Rattle.records.specs.Laws.{frame_of}

@@ -1,6 +1,5 @@
 -- `records::number_of`: each refusal's number computes.
 use mathlib.Core.Path.{sym, ap}
-use borrow.Author.Rules.{rules}
 use Rattle.records.specs.Answer.{number_of}
 use Rattle.records.proofs.number_of.Goals as goal
 

@@ -1,5 +1,5 @@
 use mathlib.Core.Path.{refl, sym, subst}
-use Prim.Native.Nat.{ℕ, ◌+◌, ◌-◌, ◌≤◌}
+use Prim.Native.Nat.{ℕ, ◌+◌, ◌≤◌}
 use native.Mathlib.Omega.{arith}
 use borrow.Author.Rules.{rules}
 use Rattle.laws.specs.Chain.{lt_of}
@@ -7,7 +7,6 @@ use Rattle.image.specs.Layout.{image_in}
 use Rattle.image.specs.SoundLaws.{held}
 use Rattle.plan.specs.Sane.{Loaded}
 use Rattle.plan.specs.Laws.{policed}
-use Rattle.replica.specs.Replicating.{Replicating}
 use Rattle.replica.specs.ReplicaLaws.{carries_replica, few_entries, place_left, replicating_none, replicating_more, replicating_same, replicating_end, replicating_no}
 use Rattle.replica.proofs.all.Goals as goal
 use Rattle.replica.proofs.all.Goals.{then-names, else-names}

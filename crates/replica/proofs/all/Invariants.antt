@@ -1,16 +1,7 @@
 -- `replica::all`: what the entries that the loop has passed yield.
-use mathlib.Core.Logic.{⊎_elim}
-use mathlib.Core.Path.{refl, sym, subst}
-use Prim.Native.Nat.{ℕ, ◌+◌, ◌-◌, ◌≤◌}
-use native.Mathlib.Omega.{arith}
-use borrow.Author.Rules.{rules}
-use Rattle.laws.specs.Chain.{lt_of}
+use Prim.Native.Nat.{◌-◌}
 use Rattle.image.specs.Layout.{image_in}
-use Rattle.image.specs.SoundLaws.{held}
-use Rattle.plan.specs.Sane.{Loaded}
-use Rattle.plan.specs.Laws.{policed}
 use Rattle.replica.specs.Replicating.{Replicating}
-use Rattle.replica.specs.ReplicaLaws.{carries_replica, few_entries, place_left, replicating_none, replicating_more, replicating_same, replicating_end, replicating_no}
 use Rattle.replica.proofs.all.Given as goal
 
 abbrev pub invariant-loop-i : goal.invariant-loop-i

@@ -1,6 +1,5 @@
 -- `replica::one`: by the answer of 4, then by that of 7 and 8.
 use mathlib.Core.Path.{sym, subst, ◌∙◌}
-use borrow.Author.Rules.{rules}
 use Rattle.image.specs.Layout.{image_in}
 use Rattle.plan.specs.LetIn.{Inside}
 use Rattle.plan.specs.EnterLaws.{inside}

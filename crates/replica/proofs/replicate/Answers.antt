@@ -1,6 +1,5 @@
 -- `replica::replicate`: by what steps 1 to 6 answered.
 use mathlib.Core.Path.{subst}
-use borrow.Author.Rules.{rules}
 use Rattle.image.specs.Layout.{image_in}
 use Rattle.plan.specs.LetIn.{Through}
 use Rattle.replica.specs.ReplicaLaws.{none_of, all_of}

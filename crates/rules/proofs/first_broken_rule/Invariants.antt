@@ -2,10 +2,8 @@
 use mathlib.Core.Path.{◌≡◌}
 use mathlib.Core.Bool.{false}
 use Prim.Native.Nat.{◌-◌, ◌≤◌}
-use borrow.Author.Rules.{rules}
 use Rattle.image.specs.Layout.{image_in}
 use Rattle.rules.specs.Rules.{rule_count, broken_before}
-use Rattle.rules.specs.Run.{run_none, run_broken, run_more, run_end}
 use Rattle.rules.proofs.first_broken_rule.Given as goal
 
 abbrev pub invariant-loop-k : goal.invariant-loop-k

@@ -1,6 +1,4 @@
 -- `settle::run`: its cells loaded, settled and stored.
-use native.Mathlib.Omega.{arith}
-use borrow.Author.Rules.{rules}
 use Rattle.settle.specs.Laws.{runs_as}
 use Rattle.settle.proofs.run.Goals as goal
 

@@ -1,5 +1,4 @@
 -- `settle::settle`: what was spent, and the verdict by its number.
-use borrow.Author.Rules.{rules}
 use Rattle.settle.specs.Laws.{settles_as}
 use Rattle.settle.proofs.settle.Goals as goal
 

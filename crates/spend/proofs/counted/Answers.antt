@@ -1,5 +1,4 @@
 -- `spend::counted`: each count fits, since 38 and 39 have bounded it.
-use borrow.Author.Rules.{rules}
 use Rattle.spend.specs.Laws.{is_dropped, not_dropped}
 use Rattle.spend.proofs.counted.Goals as goal
 

@@ -1,5 +1,4 @@
 -- `spend::credit_at`: a step's gain is RATE × 15,625, and elapsed is since the meter's own time.
-use borrow.Author.Rules.{rules}
 use mathlib.Core.Path.{ap, sym, ◌∙◌}
 use Prim.Native.Nat.{ℕ, ◌+◌, ◌*◌, min}
 use native.Mathlib.Nat.{mul_assoc}

@@ -1,5 +1,4 @@
 -- `spend::grown`: exact for every elapsed time, since the product is made only where it stays below full.
-use borrow.Author.Rules.{rules}
 use native.Mathlib.Omega.{arith}
 use Rattle.spend.specs.Laws.{no_gain, filled, within, partly}
 use Rattle.spend.proofs.grown.Goals as goal

@@ -1,5 +1,4 @@
 -- `spend::spend`: 9, then the rest with the frame paid for.
-use borrow.Author.Rules.{rules}
 use Rattle.spend.specs.Laws.{short, enough}
 use Rattle.spend.specs.Spend.{spent_of}
 use Rattle.spend.proofs.spend.Goals as goal

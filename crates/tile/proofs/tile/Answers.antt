@@ -1,5 +1,5 @@
 -- `tile::tile`: 31, 33, not-loaded, 39, then the tile.
-use Rattle.std.proofs.Common.{sym, ap, ◌∙◌, arith}
+use Rattle.std.proofs.Common.{sym, ap, ◌∙◌}
 use Rattle.laws.specs.Chain.{hit, pass, hit_lt, pass_lt}
 use Rattle.image.specs.SoundLaws.{sound, has_room}
 use Rattle.tile.specs.declared.shares.Asked.TheVariants.{Shown}

@@ -1,17 +1,10 @@
 -- `whole::bytes_run`: what is left of the machine's run is the whole run.
-use mathlib.Core.Path.{◌≡◌, refl, sym, ◌∙◌, ap, subst}
-use mathlib.Core.List.{List}
-use Prim.Native.Nat.{ℕ, ◌-◌, ◌≤◌, zero-le}
-use native.Mathlib.Omega.{arith}
-use lib.ListN.{length, drop, length-take, length-drop}
-use borrow.Author.Rules.{rules}
+use mathlib.Core.Path.{◌≡◌}
+use Prim.Native.Nat.{◌-◌, ◌≤◌}
+use lib.ListN.{length, drop}
 use Rattle.stream.specs.Paper.{words_of}
-use Rattle.stream.specs.Machine.{Machine, at, fresh, run}
+use Rattle.stream.specs.Machine.{at, run}
 use Rattle.stream.specs.Fine.{Fine}
-use Rattle.stream.specs.FineLaws.{cleared_fine, run_fine}
-use Rattle.stream.proofs.StatesLaws.{so, leaves_at}
-use Rattle.whole.proofs.Laws.{started, part_of, bytes_on}
-use Rattle.quick.proofs.Laws.{part_is}
 use Rattle.whole.proofs.bytes_run.Given as goal
 
 abbrev pub invariant-loop-i : goal.invariant-loop-i

@@ -1,11 +1,9 @@
-use mathlib.Core.Path.{◌≡◌, refl, sym, ◌∙◌, ap}
-use mathlib.Core.List.{List, ◌++◌}
-use Prim.Native.Nat.{ℕ, ◌-◌, ◌*◌, ◌<◌, ◌≤◌, zero-le}
+use mathlib.Core.Path.{refl, sym, ◌∙◌, ap}
+use mathlib.Core.List.{List}
+use Prim.Native.Nat.{ℕ, ◌<◌, zero-le}
 use native.Mathlib.Omega.{arith}
-use lib.ListN.{length, take, drop, length-set}
+use lib.ListN.{length, length-set}
 use lib.Seq.{length-take-le}
-use borrow.Author.Rules.{rules}
-use Rattle.stream.specs.Paper.{words_of}
 use Rattle.stream.specs.Machine.{at, run}
 use Rattle.stream.proofs.StatesLaws.{so}
 use Rattle.whole.proofs.Laws.{chunk_on, chunk_end}

@@ -1,6 +1,5 @@
 -- `whole::cut_short`: the image zero and 10.
 use mathlib.Core.Path.{refl}
-use borrow.Author.Rules.{rules}
 use Rattle.whole.proofs.cut_short.Goals as goal
 
 pub shape_of-image : goal.shape_of-image

@@ -1,5 +1,4 @@
 -- `whole::data_run_long`: the sums by the long tables.
-use borrow.Author.Rules.{rules}
 use Rattle.whole.proofs.data_run_long.Goals as goal
 
 pub stored-requires : goal.stored-requires

@@ -1,6 +1,5 @@
 -- `whole::fresh_short`: the cleared buffer, from a fresh state.
 use mathlib.Core.Path.{sym, ◌∙◌, ap, subst}
-use borrow.Author.Rules.{rules}
 use Rattle.stream.proofs.StatesLaws.{so}
 use Rattle.whole.proofs.Laws.{started}
 use Rattle.stream.specs.Machine.{Machine, fresh, run}

@@ -1,6 +1,5 @@
 -- `whole::load_bytes`: 31, 9, or the run settled.
 use mathlib.Core.Path.{refl, sym, ◌∙◌, ap, subst}
-use borrow.Author.Rules.{rules}
 use Rattle.image.specs.SoundLaws.{has_room}
 use Rattle.whole.proofs.Laws.{ends_as, bytes_31, bytes_9, bytes_whole}
 use Rattle.stream.proofs.StatesLaws.{leaves_at}

@@ -1,6 +1,5 @@
 -- `whole::load_words`: 31, or the run settled.
 use mathlib.Core.Path.{refl, sym, ◌∙◌, ap, subst}
-use borrow.Author.Rules.{rules}
 use Rattle.image.specs.SoundLaws.{has_room}
 use Rattle.whole.proofs.Laws.{ends_as, words_31, words_on}
 use Rattle.stream.proofs.StatesLaws.{leaves_at}

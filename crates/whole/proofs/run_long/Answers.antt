@@ -1,9 +1,7 @@
-use mathlib.Core.Path.{◌≡◌, refl, sym, ◌∙◌, subst}
-use Prim.Native.Nat.{ℕ, ◌-◌, ◌<◌, ◌≤◌, zero-le}
+use mathlib.Core.Path.{refl, sym, ◌∙◌, subst}
+use Prim.Native.Nat.{ℕ, ◌<◌, zero-le}
 use native.Mathlib.Omega.{arith}
-use lib.ListN.{length, drop}
-use borrow.Author.Rules.{rules}
-use Rattle.stream.specs.Machine.{Machine, at, run}
+use Rattle.stream.specs.Machine.{Machine, at}
 use Rattle.stream.specs.Fine.{Fine}
 use Rattle.stream.specs.FineLaws.{run_fine}
 use Rattle.stream.proofs.StatesLaws.{leaves_at, at_leaves}

@@ -1,6 +1,5 @@
 -- `whole::settle`: by the phase.
 use mathlib.Core.Path.{refl, ap}
-use borrow.Author.Rules.{rules}
 use Rattle.stream.specs.Answers.{said_of}
 use Rattle.whole.proofs.Laws.{settles}
 use Rattle.whole.proofs.settle.Goals as goal

@@ -4,7 +4,6 @@ use Prim.Native.Nat.{ℕ, ◌<◌, ◌≤◌}
 use lib.Dec.{lit<}
 use lib.ListN.{length, take}
 use lib.Seq.{length-take-le}
-use borrow.Author.Rules.{rules}
 use Rattle.stream.specs.Fine.{Roomy}
 use Rattle.stream.specs.declared.Phase.{Phase}
 use Rattle.whole.proofs.some_long.Goals as goal

@@ -2,7 +2,6 @@
 use mathlib.Core.Path.{◌≡◌, ◌∙◌}
 use Prim.Native.Nat.{ℕ, ◌%◌}
 use native.Mathlib.Omega.{arith}
-use borrow.Author.Rules.{rules}
 use Rattle.fields.proofs.address.macaddr_low.Goals as goal
 
 low : (x : ℕ) → x % 268435456 ≡ x % 281474976710656 % 268435456

@@ -5,7 +5,6 @@ use native.Mathlib.Nat.{le_of_lt, lt_of_lt_of_le}
 use native.Mathlib.Omega.{arith}
 use mathlib.Core.List.{List}
 use lib.ListN.{take, drop}
-use borrow.Author.Rules.{rules}
 use Rattle.image.specs.Rows.{start_of, size_of, most_of}
 use Rattle.image.specs.RowLaws.{entry_ends}
 use Rattle.image.specs.Layout.{Held, image_words, image_in}

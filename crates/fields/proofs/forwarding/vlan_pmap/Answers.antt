@@ -1,5 +1,4 @@
 -- `image::forwarding::vlan_pmap`: three bits, whichever j.
-use borrow.Author.Rules.{rules}
 use mathlib.Core.Path.{subst}
 use Prim.Native.Nat.{ℕ, ◌^◌, ◌<◌}
 use native.Mathlib.Omega.{arith}

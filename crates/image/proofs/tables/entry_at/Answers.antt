@@ -2,7 +2,6 @@
 use mathlib.Core.Path.{◌≡◌, sym, ◌∙◌, ap, subst}
 use Prim.Native.Nat.{ℕ, ◌+◌, ◌*◌, ◌≤◌}
 use native.Mathlib.Omega.{arith}
-use borrow.Author.Rules.{rules}
 use Rattle.image.specs.Rows.{start_of, size_of, most_of}
 use Rattle.image.specs.Placed.{RowOf}
 use Rattle.image.specs.RowLaws.{entry_starts}

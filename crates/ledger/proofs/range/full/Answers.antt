@@ -1,5 +1,5 @@
 -- `ledger::range::full`: SMAX × 8,000,000, or 0 where the entry is not loaded.
-use Rattle.std.proofs.Common.{ℕ, ◌*◌, refl, ap, ◌∙◌, arith, rules}
+use Rattle.std.proofs.Common.{ℕ, ◌*◌, refl, ap, ◌∙◌, arith}
 use Rattle.laws.specs.Chain.{hit_lt, pass_lt, lt_of, of_le}
 use Rattle.image.specs.SoundLaws.{held}
 use Rattle.image.specs.declared.tables.Table.TheVariants.{Policing}

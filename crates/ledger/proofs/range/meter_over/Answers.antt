@@ -1,5 +1,4 @@
 -- `ledger::range::meter_over`: its credit or its time.
-use Rattle.std.proofs.Common.{arith, rules}
 use Rattle.ledger.specs.AboveLaws.{tells_either}
 use Rattle.ledger.proofs.range.meter_over.Goals as goal
 

@@ -1,8 +1,5 @@
-use Rattle.std.proofs.Common.{◌≡◌, ℕ, ◌-◌, ◌≤◌, sym, subst, arith, rules}
-use Rattle.laws.specs.Scan.{some_below}
-use Rattle.image.specs.Layout.{image_in}
+use Rattle.std.proofs.Common.{◌≡◌, ℕ, ◌≤◌, sym, subst, rules}
 use Rattle.image.specs.declared.tables.Table.TheVariants.{Policing}
-use Rattle.ledger.specs.Above.{Tells, meter_off}
 use Rattle.ledger.specs.AboveLaws.{tells_none, meter_more, not_loaded_lem, meters_end}
 use Rattle.ledger.proofs.range.meters_over.Goals as goal
 

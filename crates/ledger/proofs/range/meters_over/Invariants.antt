@@ -1,10 +1,8 @@
 -- `ledger::range::meters_over`: the meters with an entry, then the others.
-use Rattle.std.proofs.Common.{ℕ, ◌-◌, ◌≤◌, sym, subst, arith, rules}
+use Rattle.std.proofs.Common.{◌-◌, ◌≤◌}
 use Rattle.laws.specs.Scan.{some_below}
 use Rattle.image.specs.Layout.{image_in}
-use Rattle.image.specs.declared.tables.Table.TheVariants.{Policing}
 use Rattle.ledger.specs.Above.{Tells, meter_off}
-use Rattle.ledger.specs.AboveLaws.{tells_none, meter_more, not_loaded_lem, meters_end}
 use Rattle.ledger.proofs.range.meters_over.Given as goal
 
 abbrev pub invariant-loop-k : goal.invariant-loop-k

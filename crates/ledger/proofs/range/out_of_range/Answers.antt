@@ -1,5 +1,4 @@
 -- `ledger::range::out_of_range`: 39's clauses, in the order in which they are asked.
-use Rattle.std.proofs.Common.{arith, rules}
 use Rattle.laws.specs.Chain.{chain}
 use Rattle.ledger.specs.AboveLaws.{as_asked}
 use Rattle.ledger.proofs.range.out_of_range.Goals as goal

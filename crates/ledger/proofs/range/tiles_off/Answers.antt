@@ -1,8 +1,5 @@
-use Rattle.std.proofs.Common.{◌≡◌, ◌-◌, ◌≤◌, false, sym, refl, ◌∙◌, arith, rules}
-use Rattle.laws.specs.Scan.{some_below}
+use Rattle.std.proofs.Common.{sym, refl, ◌∙◌, arith, rules}
 use Rattle.laws.specs.ScanLaws.{some_none, some_not, some_found, some_end}
-use Rattle.ledger.specs.Row.{frames, drops, octets, dropped, cell}
-use Rattle.ledger.specs.Range.{counts_off}
 use Rattle.ledger.proofs.range.tiles_off.Goals as goal
 
 pub loop-p-init : goal.loop-p-init

@@ -1,7 +1,6 @@
 -- `ledger::range::tiles_off`: no tile that the loop has passed has counts that no frames give.
-use Rattle.std.proofs.Common.{◌≡◌, ◌-◌, ◌≤◌, false, sym, refl, ◌∙◌, arith, rules}
+use Rattle.std.proofs.Common.{◌≡◌, ◌-◌, ◌≤◌, false}
 use Rattle.laws.specs.Scan.{some_below}
-use Rattle.laws.specs.ScanLaws.{some_none, some_not, some_found, some_end}
 use Rattle.ledger.specs.Row.{frames, drops, octets, dropped, cell}
 use Rattle.ledger.specs.Range.{counts_off}
 use Rattle.ledger.proofs.range.tiles_off.Given as goal

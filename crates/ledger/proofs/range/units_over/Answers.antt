@@ -1,9 +1,4 @@
-use Rattle.std.proofs.Common.{◌-◌, ◌≤◌, ltb, arith, rules}
-use Rattle.laws.specs.Scan.{some_below}
-use Rattle.image.specs.Layout.{image_in}
-use Rattle.fields.specs.Fields.{part_spc}
-use Rattle.ledger.specs.Row.{units, cell}
-use Rattle.ledger.specs.Above.{Tells}
+use Rattle.std.proofs.Common.{rules}
 use Rattle.ledger.specs.AboveLaws.{tells_none, tells_of, tells_more, tells_end}
 use Rattle.ledger.proofs.range.units_over.Goals as goal
 

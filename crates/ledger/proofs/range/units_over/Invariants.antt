@@ -1,11 +1,10 @@
 -- `ledger::range::units_over`: the top bit is set as soon as a partition has more units than its space.
-use Rattle.std.proofs.Common.{◌-◌, ◌≤◌, ltb, arith, rules}
+use Rattle.std.proofs.Common.{◌-◌, ◌≤◌, ltb}
 use Rattle.laws.specs.Scan.{some_below}
 use Rattle.image.specs.Layout.{image_in}
 use Rattle.fields.specs.Fields.{part_spc}
 use Rattle.ledger.specs.Row.{units, cell}
 use Rattle.ledger.specs.Above.{Tells}
-use Rattle.ledger.specs.AboveLaws.{tells_none, tells_of, tells_more, tells_end}
 use Rattle.ledger.proofs.range.units_over.Given as goal
 
 abbrev pub invariant-loop-j : goal.invariant-loop-j

@@ -1,6 +1,5 @@
 -- `headers::begun`: refused, or its data are due.
 use mathlib.Core.Path.{refl}
-use borrow.Author.Rules.{rules}
 use Rattle.stream.proofs.StatesLaws.{so}
 use Rattle.loader.proofs.HeadersLaws.{begun_by_lem}
 use Rattle.loader.proofs.headers.begun.Goals as goal

@@ -1,6 +1,5 @@
 -- `headers::device`: 1, or the blocks follow.
 use mathlib.Core.Path.{refl, ◌∙◌, ap}
-use borrow.Author.Rules.{rules}
 use Rattle.stream.proofs.StatesLaws.{so}
 use Rattle.laws.specs.Chain.{hit_ne, pass_ne}
 use Rattle.stream.specs.Machine.{at, idle}

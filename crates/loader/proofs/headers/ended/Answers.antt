@@ -1,5 +1,4 @@
 -- `headers::ended`: 8, or the end.
-use borrow.Author.Rules.{rules}
 use Rattle.stream.proofs.StatesLaws.{so}
 use Rattle.loader.proofs.HeadersLaws.{ended_8, ended_on}
 use Rattle.loader.proofs.headers.ended.Goals as goal

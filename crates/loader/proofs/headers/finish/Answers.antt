@@ -2,7 +2,6 @@
 use mathlib.Core.Path.{sym, ◌∙◌, ap, subst}
 use mathlib.Core.List.{List}
 use Prim.Native.Nat.{ℕ}
-use borrow.Author.Rules.{rules}
 use Rattle.image.specs.Layout.{image_in}
 use Rattle.image.specs.Sound.{Bounded}
 use Rattle.rules.specs.Rules.{ruled}

@@ -1,7 +1,6 @@
 -- `headers::fits`: 5, then 6, then the table.
 use native.Mathlib.Nat.{div-le_self}
 use native.Mathlib.Omega.{arith}
-use borrow.Author.Rules.{rules}
 use Rattle.stream.specs.Machine.{had_in}
 use Rattle.loader.proofs.HeadersCarried.{header_5, header_6, header_right}
 use Rattle.loader.proofs.headers.fits.Goals as goal

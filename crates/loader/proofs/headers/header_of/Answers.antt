@@ -1,6 +1,5 @@
 -- `headers::header_of`: the ID names a table, whose own tests follow, or 4, or 3.
 use mathlib.Core.Path.{sym, ◌∙◌, ap}
-use borrow.Author.Rules.{rules}
 use Rattle.image.specs.declared.tables.Block.{Block}
 use Rattle.stream.specs.Header.{header_of}
 use Rattle.stream.specs.Machine.{had_in}

@@ -1,5 +1,4 @@
 -- `headers::header_sum`: both words go in.
-use borrow.Author.Rules.{rules}
 use Rattle.loader.proofs.HeadersLaws.{two_words}
 use Rattle.loader.proofs.headers.header_sum.Goals as goal
 

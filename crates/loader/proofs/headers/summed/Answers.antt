@@ -1,6 +1,5 @@
 -- `headers::summed`: the end, 2, or a block begins.
 use mathlib.Core.Path.{refl}
-use borrow.Author.Rules.{rules}
 use Rattle.stream.proofs.StatesLaws.{so}
 use Rattle.loader.proofs.HeadersLaws.{summed_end, summed_2, summed_on}
 use Rattle.loader.proofs.headers.summed.Goals as goal

@@ -1,9 +1,6 @@
-use mathlib.Core.Path.{◌≡◌, sym, ◌∙◌}
-use Prim.Native.Nat.{◌-◌, ◌≤◌}
+use mathlib.Core.Path.{sym, ◌∙◌}
 use native.Mathlib.Omega.{arith}
-use borrow.Author.Rules.{rules}
 use borrow.Author.Tests.{eq-eqb, ne_eqb}
-use Rattle.laws.specs.Scan.{first}
 use Rattle.laws.specs.ScanLaws.{first_more, first_found, first_end}
 use Rattle.image.specs.Layout.{image_in, count_of}
 use Rattle.image.specs.declared.tables.Table.TheVariants.{VlanLookup}

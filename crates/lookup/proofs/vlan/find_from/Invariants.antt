@@ -1,13 +1,8 @@
 -- `lookup::vlan::find_from`: none of the entries that the loop has passed has the VLANID, so where it stops is the first.
-use mathlib.Core.Path.{◌≡◌, sym, ◌∙◌}
+use mathlib.Core.Path.{◌≡◌}
 use Prim.Native.Nat.{◌-◌, ◌≤◌}
-use native.Mathlib.Omega.{arith}
-use borrow.Author.Rules.{rules}
-use borrow.Author.Tests.{eq-eqb, ne_eqb}
 use Rattle.laws.specs.Scan.{first}
-use Rattle.laws.specs.ScanLaws.{first_more, first_found, first_end}
-use Rattle.image.specs.Layout.{image_in, count_of}
-use Rattle.image.specs.declared.tables.Table.TheVariants.{VlanLookup}
+use Rattle.image.specs.Layout.{image_in}
 use Rattle.lookup.specs.Vlan.{has_vlan}
 use Rattle.lookup.proofs.vlan.find_from.Given as goal
 

@@ -1,15 +1,7 @@
 -- `lookup::vlan::none_has`: the top bit is set as long as none of the entries has the VLANID.
-use mathlib.Core.Path.{◌∙◌, ap}
-use mathlib.Core.Bool.{not}
-use Prim.Native.Nat.{ℕ, ◌-◌, ◌<◌, ◌≤◌, ◌^◌, zero-le}
-use native.Mathlib.Nat.{le_antisymm, lt_trans}
-use native.Mathlib.Omega.{arith}
-use lib.Dec.{eqb}
-use borrow.Author.Rules.{rules}
-use Rattle.laws.specs.Scan.{flag}
+use Prim.Native.Nat.{◌-◌, ◌≤◌}
 use Rattle.image.specs.Layout.{image_in}
 use Rattle.lookup.specs.Groups.{from, Clear}
-use Rattle.lookup.specs.GroupsLaws.{clear_none, clear_more, clear_end}
 use Rattle.lookup.specs.Vlan.{has_vlan}
 use Rattle.lookup.proofs.vlan.none_has.Given as goal
 

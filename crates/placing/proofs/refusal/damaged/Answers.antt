@@ -1,6 +1,5 @@
 -- `refusal::damaged`: the tests of 30, in their order.
 use mathlib.Core.Path.{◌≡◌, refl, sym, ◌∙◌}
-use borrow.Author.Rules.{rules}
 use mathlib.Core.Bool.{Bool, true, false, cond}
 use Rattle.laws.specs.Chain.{hit, pass}
 use Rattle.image.specs.SoundLaws.{within_limits}

@@ -2,7 +2,6 @@
 use mathlib.Core.Path.{◌∙◌, ap}
 use mathlib.Core.List.{List}
 use Prim.Native.Nat.{ℕ}
-use borrow.Author.Rules.{rules}
 use Rattle.stream.specs.Machine.{at}
 use Rattle.placing.proofs.RefusalWrites.{opened_begun, opened_fresh}
 use Rattle.placing.proofs.refusal.open.Goals as goal

@@ -1,7 +1,6 @@
 -- `refusal::overdue`: by the phase; inside a block what is left is the room less what the table had.
 use mathlib.Core.Path.{sym, ◌∙◌, ap}
 use native.Mathlib.Nat.{mul-le-mul_right}
-use borrow.Author.Rules.{rules}
 use Rattle.image.specs.Layout.{image_in}
 use Rattle.image.specs.Rows.{size_of}
 use Rattle.stream.specs.Machine.{overdue_in}

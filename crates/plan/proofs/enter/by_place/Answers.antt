@@ -1,6 +1,5 @@
 -- `enter::by_place`: by the answer of 4, then 5 and 6.
 use mathlib.Core.Path.{subst}
-use borrow.Author.Rules.{rules}
 use Prim.Native.Nat.{ℕ, ◌+◌, ◌≤◌}
 use native.Mathlib.Omega.{arith}
 use Rattle.image.specs.Layout.{image_in}

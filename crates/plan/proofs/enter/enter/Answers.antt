@@ -1,6 +1,5 @@
 -- `enter::enter`: by what steps 1 to 3 answer.
 use mathlib.Core.Path.{sym, ap, subst, ◌∙◌}
-use borrow.Author.Rules.{rules}
 use Rattle.image.specs.Layout.{image_in}
 use Rattle.frame.specs.Whole.{Whole}
 use Rattle.frame.specs.Laws.{whole}

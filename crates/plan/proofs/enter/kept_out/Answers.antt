@@ -3,7 +3,6 @@ use Prim.Native.Nat.{ℕ, ◌<◌}
 use native.Mathlib.Omega.{arith}
 use Rattle.laws.specs.Chain.{flags}
 use Rattle.plan.specs.Steps.{kept_out}
-use Rattle.image.specs.declared.tables.Table.TheVariants.{AddressLookup, LookupParameters}
 use Rattle.plan.proofs.enter.kept_out.Goals as goal
 
 low : (n : ℕ) → n < 5 → n < 64

@@ -3,8 +3,6 @@ use mathlib.Core.Path.{◌≡◌, sym, ◌∙◌, ap}
 use mathlib.Core.Bool.{Bool, true, false, cond, not}
 use Prim.Native.Nat.{ℕ, ◌<◌}
 use native.Mathlib.Omega.{arith}
-use Rattle.image.specs.SoundLaws.{held}
-use Rattle.image.specs.declared.tables.Table.TheVariants.{VlanLookup}
 use Rattle.addresses.specs.Address.{holds}
 use Rattle.plan.proofs.enter.outsider.Goals as goal
 

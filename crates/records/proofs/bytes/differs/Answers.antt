@@ -1,10 +1,5 @@
-use mathlib.Core.Path.{◌≡◌}
-use Prim.Native.Nat.{◌-◌, ◌≤◌, zero-le}
+use Prim.Native.Nat.{zero-le}
 use native.Mathlib.Omega.{arith}
-use lib.ListN.{length, drop}
-use borrow.Author.Rules.{rules}
-use Rattle.records.specs.Bytes.{differ}
-use Rattle.records.specs.Differ.{differ_from}
 use Rattle.records.specs.ByteLaws.{differ_start, differ_short, differ_all, differ_here, differ_more}
 use Rattle.records.proofs.bytes.differs.Goals as goal
 

@@ -1,12 +1,9 @@
 -- `bytes::differs`: what is left of the question after i bytes is the whole question.
 use mathlib.Core.Path.{◌≡◌}
-use Prim.Native.Nat.{◌-◌, ◌≤◌, zero-le}
-use native.Mathlib.Omega.{arith}
+use Prim.Native.Nat.{◌-◌, ◌≤◌}
 use lib.ListN.{length, drop}
-use borrow.Author.Rules.{rules}
 use Rattle.records.specs.Bytes.{differ}
 use Rattle.records.specs.Differ.{differ_from}
-use Rattle.records.specs.ByteLaws.{differ_start, differ_short, differ_all, differ_here, differ_more}
 use Rattle.records.proofs.bytes.differs.Given as goal
 
 abbrev pub invariant-loop-i : goal.invariant-loop-i

@@ -1,10 +1,8 @@
 use mathlib.Core.Path.{◌≡◌}
 use mathlib.Core.List.{[]}
-use Prim.Native.Nat.{◌-◌, ◌^◌, ◌<◌, ◌≤◌, zero-le}
+use Prim.Native.Nat.{zero-le}
 use native.Mathlib.Omega.{arith}
 use lib.Dec.{lit<}
-use borrow.Author.Rules.{rules}
-use Rattle.records.specs.Bytes.{number_at}
 use Rattle.records.specs.ByteLaws.{number_none, number_more, number_small, number_fits, number_room}
 use Rattle.records.proofs.bytes.number_at.Goals as goal
 

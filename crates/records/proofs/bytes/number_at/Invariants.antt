@@ -1,12 +1,7 @@
 -- `bytes::number_at`: after i bytes n is the number that they make.
 use mathlib.Core.Path.{◌≡◌}
-use mathlib.Core.List.{[]}
-use Prim.Native.Nat.{◌-◌, ◌^◌, ◌<◌, ◌≤◌, zero-le}
-use native.Mathlib.Omega.{arith}
-use lib.Dec.{lit<}
-use borrow.Author.Rules.{rules}
+use Prim.Native.Nat.{◌-◌, ◌^◌, ◌<◌, ◌≤◌}
 use Rattle.records.specs.Bytes.{number_at}
-use Rattle.records.specs.ByteLaws.{number_none, number_more, number_small, number_fits, number_room}
 use Rattle.records.proofs.bytes.number_at.Given as goal
 
 abbrev pub invariant-loop-i : goal.invariant-loop-i

@@ -1,11 +1,11 @@
 use mathlib.Core.Path.{sym, subst}
-use Prim.Native.Nat.{ℕ, ◌+◌, ◌-◌, ◌≤◌, zero-le}
+use Prim.Native.Nat.{ℕ, ◌≤◌, zero-le}
 use native.Mathlib.Omega.{arith}
 use borrow.Author.Rules.{rules}
 use Rattle.image.specs.Layout.{image_in}
 use Rattle.image.specs.declared.tables.Table.TheVariants.{Policing}
-use Rattle.ledger.specs.Row.{units, credit, start, many}
-use Rattle.row.specs.Fresh.{fresh_cell, fresh_of, Filling}
+use Rattle.ledger.specs.Row.{credit, many}
+use Rattle.row.specs.Fresh.{fresh_of}
 use Rattle.row.specs.FreshLaws.{filling_none, partition_more, meters_on, meter_more, fresh_end}
 use Rattle.row.proofs.fresh.fresh_row.Goals as goal
 

@@ -1,13 +1,8 @@
 -- `fresh::fresh_row`: the partitions and then the meters that a loop has passed are filled; every other cell is 0.
-use mathlib.Core.Path.{sym, subst}
-use Prim.Native.Nat.{ℕ, ◌+◌, ◌-◌, ◌≤◌, zero-le}
-use native.Mathlib.Omega.{arith}
-use borrow.Author.Rules.{rules}
+use Prim.Native.Nat.{◌+◌, ◌-◌, ◌≤◌}
 use Rattle.image.specs.Layout.{image_in}
-use Rattle.image.specs.declared.tables.Table.TheVariants.{Policing}
 use Rattle.ledger.specs.Row.{units, credit, start, many}
-use Rattle.row.specs.Fresh.{fresh_cell, fresh_of, Filling}
-use Rattle.row.specs.FreshLaws.{filling_none, partition_more, meters_on, meter_more, fresh_end}
+use Rattle.row.specs.Fresh.{fresh_cell, Filling}
 use Rattle.row.proofs.fresh.fresh_row.Given as goal
 
 abbrev pub invariant-loop-j : goal.invariant-loop-j

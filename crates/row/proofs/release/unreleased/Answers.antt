@@ -1,6 +1,4 @@
 -- `release::unreleased`: 36, then 37.
-use native.Mathlib.Omega.{arith}
-use borrow.Author.Rules.{rules}
 use Rattle.laws.specs.Chain.{chain, carried}
 use Rattle.row.proofs.release.unreleased.Goals as goal
 

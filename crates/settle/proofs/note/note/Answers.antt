@@ -1,7 +1,5 @@
 -- `note::note`: the counts that the spending gives, and the time.
 use mathlib.Core.Path.{ap}
-use native.Mathlib.Omega.{arith}
-use borrow.Author.Rules.{rules}
 use Rattle.settle.specs.Note.{with_counts, noted}
 use Rattle.settle.proofs.note.note.Goals as goal
 

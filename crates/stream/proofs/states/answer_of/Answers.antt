@@ -1,6 +1,5 @@
 -- `states::answer_of`: by the phase.
 use mathlib.Core.Path.{sym, ◌∙◌, ap}
-use borrow.Author.Rules.{rules}
 use Rattle.stream.specs.Machine.{answer_of}
 use Rattle.stream.proofs.states.answer_of.Goals as goal
 
