@@ -4,7 +4,7 @@
 
 use crc_both::Both;
 use std::io;
-use std::io::{BufWriter, Write};
+use std::io::Write;
 
 fn print_line<W: Write>(out: &mut W, name: &str, n: usize, value: u32) -> io::Result<()> {
     writeln!(out, "{name} {n} {value:08x}")
@@ -106,12 +106,11 @@ fn made() -> [u32; 1000] {
 // Bytes; short runs, of every length up to twenty, so that a run by four leaves over each number of words several times; and long ones.
 fn main(rt: HostRuntime) -> io::Result<()> {
     let words = made();
-    let mut out = BufWriter::new(rt.alloc(), io::writer(&rt))?;
+    let mut out = io::writer(&rt);
     run_bytes(&mut out, b"123456789")?;
     for n in 0..21 {
         run(&mut out, &words, n)?;
     }
     run(&mut out, &words, 999)?;
-    run(&mut out, &words, 1000)?;
-    out.flush()
+    run(&mut out, &words, 1000)
 }

@@ -13,7 +13,7 @@ use fields::{address, forwarding, mac, parameters, policing, retagging, vlan};
 use image::tables::{TABLES, Table};
 use image::{IMAGE_WORDS, count, tables};
 use std::io;
-use std::io::{BufWriter, Read, Write};
+use std::io::{Read, Write};
 use stream::bytes::word_at;
 use stream::{Phase, states};
 
@@ -191,7 +191,7 @@ fn read_full<R: Read>(input: &mut R, buf: &mut [u8]) -> io::Result<usize>
 fn main(rt: HostRuntime) -> io::Result<()> {
     let mut bytes = [0u8; 65536];
     let n = read_full(&mut rt.reader(), &mut bytes)?;
-    let mut out = BufWriter::new(rt.alloc(), io::writer(&rt))?;
+    let mut out = io::writer(&rt);
     let mut image = [0u32; IMAGE_WORDS];
     let mut load = states::fresh();
     for i in 0..n / 4 {
@@ -203,5 +203,5 @@ fn main(rt: HostRuntime) -> io::Result<()> {
             load = loader::step(&mut image, load, word);
         }
     }
-    out.flush()
+    Ok(())
 }

@@ -7,7 +7,7 @@ ghost use Rattle.std.specs.Prelude.{◌<◌, ◌≤◌, length, IfOk};
 use crc_both::Both;
 use image::IMAGE_WORDS;
 use std::io;
-use std::io::{BufWriter, Read, Write};
+use std::io::{Read, Write};
 use stream::bytes::word_at;
 use stream::states::Wrote;
 use stream::{Answer, Load, states};
@@ -166,11 +166,11 @@ fn next<R: Read, W: Write>(input: &mut R, out: &mut W) -> io::Result<bool> {
 
 fn main(rt: HostRuntime) -> io::Result<()> {
     let mut input = rt.reader();
-    let mut out = BufWriter::new(rt.alloc(), io::writer(&rt))?;
+    let mut out = io::writer(&rt);
     for _ in 0..4096 {
         if !next(&mut input, &mut out)? {
             break;
         }
     }
-    out.flush()
+    Ok(())
 }

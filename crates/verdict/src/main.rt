@@ -9,7 +9,6 @@ mod print;
 use image::IMAGE_WORDS;
 use std::env::Env;
 use std::io;
-use std::io::{BufWriter, Write};
 
 fn main(rt: HostRuntime) -> io::Result<()> {
     // Where there is no argument, or one that is too long or no text, the path is empty: no file has it, which is 10.
@@ -21,9 +20,6 @@ fn main(rt: HostRuntime) -> io::Result<()> {
     if number != 0 {
         return print::config_refused(&mut io::writer(&rt), number);
     }
-    // Told before the list is read, which may be long in coming.
     println!(rt; "config loaded")?;
-    let mut out = BufWriter::new(rt.alloc(), io::writer(&rt))?;
-    list::walk(&mut rt.reader(), &mut out, &image)?;
-    out.flush()
+    list::walk(&mut rt.reader(), &mut io::writer(&rt), &image)
 }
