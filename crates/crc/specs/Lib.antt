@@ -2,10 +2,6 @@
 pub mod Crc
 pub mod Check
 pub mod Xor
-pub mod Laws
 pub mod Four
-pub mod FourLaws
 pub mod Arm
-pub mod ArmLaws
 pub mod Bytes
-pub mod BytesLaws

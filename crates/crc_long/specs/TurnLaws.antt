@@ -3,7 +3,7 @@ use Rattle.std.specs.Prelude.{◌≡◌, List, ℕ, ◌+◌, ◌*◌, ◌/◌, �
 use Rattle.std.proofs.Common.{sym, ap₂, ◌∙◌, arith, zero-add}
 use Rattle.std.specs.Int.Bits.{bit_xor}
 use Rattle.crc.specs.Crc.{bits_out}
-use Rattle.crc.specs.Laws.{bits_out_bytes}
+use Rattle.crc.proofs.Laws.{bits_out_bytes}
 use Rattle.crc_table.specs.Table.{entry, IsTable}
 use Rattle.crc_long.specs.Turn.{looked}
 

@@ -7,7 +7,7 @@ use Rattle.std.proofs.lemmas.Nat.{xor_comm}
 use Rattle.std.proofs.Math.Pow.{high, low}
 use Rattle.crc.specs.Crc.{bits_out}
 use Rattle.crc.specs.Xor.{xor_assoc}
-use Rattle.crc.specs.Laws.{bits_out_lt, bits_out_add}
+use Rattle.crc.proofs.Laws.{bits_out_lt, bits_out_add}
 use Rattle.crc.specs.Four.{rest}
 use Rattle.crc_short_bytes.specs.Twice.{twice}
 use Rattle.crc_short.specs.Turn.{reach}

@@ -2,8 +2,8 @@
 use Rattle.std.specs.Prelude.{◌≡◌, List, ℕ, ◌+◌, ◌<◌, T, eqb}
 use Rattle.crc.specs.Crc.{bits_out}
 use Rattle.crc.specs.Arm.{Linear, pick}
-use Rattle.crc.specs.ArmLaws.{bits_out_none, after_bits}
-use Rattle.crc.specs.ArmLaws as linear
+use Rattle.crc.proofs.ArmLaws.{bits_out_none, after_bits}
+use Rattle.crc.proofs.ArmLaws as linear
 use Rattle.crc_short_bytes.specs.Twice.{twice}
 use Rattle.crc_short_bytes.specs.TwiceLaws.{twice_linear}
 use Rattle.crc_short_bytes.specs.Arm.{basis}

@@ -4,7 +4,7 @@ use Rattle.std.proofs.Common.{ap, ◌∙◌, sym}
 use Rattle.std.specs.Int.Bits.{bit_xor}
 use Rattle.std.proofs.lemmas.Nat.{xor_block}
 use Rattle.crc.specs.Crc.{bits_out}
-use Rattle.crc.specs.Laws.{bits_out_linear}
+use Rattle.crc.proofs.Laws.{bits_out_linear}
 use Rattle.crc_short_bytes.specs.Twice.{twice}
 
 pub twice_linear : (a b : ℕ) → a < 2 ^ 32 → b < 2 ^ 32 → bit_xor (twice a) (twice b) ≡ twice (bit_xor a b)

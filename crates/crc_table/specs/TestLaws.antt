@@ -6,9 +6,9 @@ use Rattle.std.proofs.Math.Dec.{eqb_refl}
 use Rattle.laws.specs.TableLaws.{both_left, both_right, tested}
 use Rattle.laws.specs.Table.{holds}
 use Rattle.crc.specs.Crc.{bits_out}
-use Rattle.crc.specs.Laws.{bits_out_add}
+use Rattle.crc.proofs.Laws.{bits_out_add}
 use Rattle.crc.specs.Arm.{pick}
-use Rattle.crc.specs.ArmLaws.{bits_linear, arm}
+use Rattle.crc.proofs.ArmLaws.{bits_linear, arm}
 use Rattle.crc_table.specs.Table.{entry, IsTable}
 use Rattle.crc_table.specs.Test.{follows, powers, passes}
 

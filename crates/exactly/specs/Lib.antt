@@ -19,8 +19,6 @@ pub mod ReplicasLaws
 pub mod StepsLaws
 pub mod StepsProved
 pub mod PastLaws
-pub mod ReplicasProved
-pub mod MatchingProved
 pub mod LoadProved
 pub mod Table
 pub mod TableProved

@@ -20,12 +20,12 @@ use Rattle.settle.specs.Note.{is_drop}
 use Rattle.places.specs.Places.{laid_over}
 use Rattle.places.specs.PlacesLaws.{laid_none}
 use Rattle.replica.specs.Replica.{Replicas, replicas_in}
-use Rattle.replica.specs.ReplicaLaws.{all_of}
+use Rattle.replica.proofs.ReplicaLaws.{all_of}
 use Rattle.judge.specs.Refusal.{mistimed, refusal_of}
 use Rattle.judge.specs.declared.Judgement.{Judgement}
 use Rattle.judge.specs.Judge.{by_entry, plan_for, judge_of, Called, by_itself, call_of, Judges}
 use Rattle.judge.specs.Laws.{is_judged, one_judgement}
-use Rattle.judge.specs.Proved.{refused_unchanged, refused_call, no_match}
+use Rattle.judge.proofs.Proved.{refused_unchanged, refused_call, no_match}
 use Rattle.exactly.specs.First.{NoneBefore}
 use Rattle.exactly.specs.Decides.{Decides, before}
 use Rattle.exactly.specs.DecidesLaws.{or_not}

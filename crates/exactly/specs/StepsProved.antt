@@ -24,7 +24,7 @@ use Rattle.judge.specs.Refusal.{mistimed, refusal_of}
 use Rattle.judge.specs.declared.Judgement.{Judgement}
 use Rattle.judge.specs.Judge.{by_entry, plan_for, noted_of, judge_of, Judges}
 use Rattle.judge.specs.Cases.{by_cases}
-use Rattle.judge.specs.Proved.{refused_unchanged, own_verdict}
+use Rattle.judge.proofs.Proved.{refused_unchanged, own_verdict}
 use Rattle.flat_answers.specs.declared.FlatVerdict.{FlatVerdict}
 use Rattle.flat_answers.specs.Answers.{flat_verdict}
 use Rattle.flat_frames.specs.declared.FlatJudged.{FlatJudged}

@@ -15,7 +15,7 @@ use Rattle.tile.specs.declared.shares.Asked.TheVariants as askeds
 use Rattle.tile.specs.Tiles as asked
 use Rattle.judge.specs.declared.Judgement.{Judgement}
 use Rattle.judge.specs.Judge.{call_of, answer_of, Judges}
-use Rattle.judge.specs.Proved as judge
+use Rattle.judge.proofs.Proved as judge
 use Rattle.tile.specs.declared.shares.Asked.{Asked}
 use Rattle.tile.specs.Tiles.{Tiled}
 use Rattle.flat_answers.specs.declared.FlatVerdict.{FlatVerdict}

@@ -6,7 +6,7 @@ use Rattle.std.proofs.Math.Path.{ap}
 use Rattle.std.proofs.Math.Seq.{length-sets}
 use Rattle.std.proofs.lemmas.Bool.{eqb-false, not-true}
 use Rattle.crc.specs.Crc.{word_in, start, finished, checksum}
-use Rattle.crc.specs.Laws.{word_in_lt}
+use Rattle.crc.proofs.Laws.{word_in_lt}
 use Rattle.image.specs.Layout.{image_in, cleared, marked}
 use Rattle.image.specs.Blocks.{block_of}
 use Rattle.image.specs.Loaded.{too_short}

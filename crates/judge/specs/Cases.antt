@@ -20,7 +20,7 @@ use Rattle.settle.specs.Carried.{carried_by_cases}
 use Rattle.settle.specs.Note.{noted}
 use Rattle.replica.specs.Replica.{replicas_of}
 use Rattle.replica.specs.Keeps.{Keeps}
-use Rattle.replica.specs.ReplicaCases.{replicas_keep}
+use Rattle.replica.proofs.ReplicaCases.{replicas_keep}
 use Rattle.judge.specs.Refusal.{refusal_of}
 use Rattle.judge.specs.Judge.{plan_for, noted_of, judge_of, entered_of, call_of}
 use Rattle.judge.specs.Admitted.{Admitted}

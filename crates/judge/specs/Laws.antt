@@ -8,7 +8,7 @@ use Rattle.image.specs.Sound.{Sound}
 use Rattle.ledger.specs.Row.{frames, last, cell}
 use Rattle.ledger.specs.Range.{latest, standing}
 use Rattle.ledger.specs.Stands.{Stands}
-use Rattle.ledger.specs.Laws.{stands}
+use Rattle.ledger.proofs.Laws.{stands}
 use Rattle.frame.specs.Bytes.{octets_of, destination_of}
 use Rattle.plan.specs.declared.enter.Entered.{Entered}
 use Rattle.plan.specs.declared.enter.Entered.TheVariants as entered
@@ -19,7 +19,7 @@ use Rattle.plan.specs.Plan.{by_policer, plan_of}
 use Rattle.plan.specs.declared.Planned.{Planned}
 use Rattle.plan.specs.declared.Planned.TheVariants.{Dropped}
 use Rattle.plan.specs.Sane.{Follows}
-use Rattle.plan.specs.Laws.{follows}
+use Rattle.plan.proofs.Laws.{follows}
 use Rattle.settle.specs.declared.Verdict.{Verdict}
 use Rattle.settle.specs.declared.Verdict.TheVariants.{Refused, Drop}
 use Rattle.settle.specs.Settle.{Judged, judged, carried_out, Carries}
@@ -29,7 +29,7 @@ use Rattle.settle.specs.RunsLaws.{plan_runs}
 use Rattle.settle.specs.Laws.{carries_as, drop_carries}
 use Rattle.places.specs.Places.{laid_over}
 use Rattle.replica.specs.Replica.{replicas_of, Replicates}
-use Rattle.replica.specs.ReplicaLaws.{none_of}
+use Rattle.replica.proofs.ReplicaLaws.{none_of}
 use Rattle.judge.specs.declared.Judgement.{Judgement}
 use Rattle.judge.specs.Refusal.{mistimed, unjudged, refusal_of}
 use Rattle.judge.specs.Judge.{said_of, by_entry, plan_for, noted_of, judge_of, entered_of, Called, called, call_of, answer_of, Judges}

@@ -5,4 +5,3 @@ pub mod SaidLaws
 pub mod Admitted
 pub mod Laws
 pub mod Cases
-pub mod Proved

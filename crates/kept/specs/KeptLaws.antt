@@ -8,7 +8,7 @@ use Rattle.image.specs.declared.tables.Table.TheVariants.{Policing}
 use Rattle.fields.specs.Fields.{part_spc, smax}
 use Rattle.ledger.specs.Row.{units, credit, since, frames, drops, octets, dropped, last, start, many, cell_count, cell, put}
 use Rattle.ledger.specs.Range.{latest, units_over, full_of, credit_over, octets_off, counts_off, tiles_off, times_over, out_of_range}
-use Rattle.ledger.specs.Laws.{cells, other_place}
+use Rattle.ledger.proofs.Laws.{cells, other_place}
 use Rattle.ledger.specs.Stands.{Counted, InRange}
 use Rattle.row.specs.Fresh.{fresh_of}
 use Rattle.row.specs.Release.{release_refusal, given_to, released, Releasable}

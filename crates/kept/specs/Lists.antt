@@ -2,7 +2,7 @@
 use Rattle.std.specs.Prelude.{◌≡◌, ◌⊎◌, List, ℕ, ◌+◌, ◌<◌, length, get_or, set}
 use Rattle.std.proofs.Common.{sym, subst, inl, inr, ⊎_elim, get_or-set_same}
 use Rattle.std.proofs.Math.Decide.{ℕ_discrete}
-use Rattle.ledger.specs.Laws.{other_place}
+use Rattle.ledger.proofs.Laws.{other_place}
 
 pub same_or_not : (a b : ℕ) → (a ≡ b) ⊎ (a ≡ b → ⊥)
 same_or_not a b = decide (ℕ_discrete a b)

@@ -2,7 +2,6 @@
 pub mod Row
 pub mod Range
 pub mod Stands
-pub mod Laws
 pub mod Above
 pub mod AboveLaws
 pub mod Answers

@@ -1,3 +1,2 @@
 -- A ledger brought up to date by a record.
 pub mod Brings
-pub mod BringsLaws

@@ -20,7 +20,7 @@ use Rattle.settle.specs.Settle.{judged, carried_out, settled_of}
 use Rattle.settle.specs.Note.{noted}
 use Rattle.judge.specs.Refusal.{unjudged, refusal_of}
 use Rattle.judge.specs.Judge.{plan_for, noted_of, judge_of, Called, by_itself, call_of}
-use Rattle.judge.specs.Proved.{no_match}
+use Rattle.judge.proofs.Proved.{no_match}
 use Rattle.tile.specs.declared.shares.Asked.TheVariants.{Shown}
 use Rattle.tile.specs.Tiles.{tile_at, asked_of}
 use Rattle.kept.specs.Kept.{Kept}

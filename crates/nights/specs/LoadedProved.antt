@@ -20,7 +20,7 @@ use Rattle.places.specs.PlacesLaws.{laid_none}
 use Rattle.judge.specs.Refusal.{mistimed, unjudged, refusal_of}
 use Rattle.judge.specs.declared.Judgement.{Judgement}
 use Rattle.judge.specs.Judge.{Called, by_itself, call_of, answer_of as answer_of_call}
-use Rattle.judge.specs.Proved.{refused_call}
+use Rattle.judge.proofs.Proved.{refused_call}
 use Rattle.tile.specs.declared.shares.Tile.TheVariants.{NotLoaded, NoFrames, Shares}
 use Rattle.tile.specs.declared.shares.Asked.{Asked}
 use Rattle.tile.specs.declared.shares.Asked.TheVariants as asked

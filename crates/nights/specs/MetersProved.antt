@@ -11,7 +11,7 @@ use Rattle.image.specs.Sound.{Sound}
 use Rattle.fields.specs.Fields.{sharindx}
 use Rattle.ledger.specs.declared.Answer.{Answer}
 use Rattle.ledger.specs.Row.{units, credit, since, many, cell_count, cell}
-use Rattle.ledger.specs.Laws.{cells, other_place}
+use Rattle.ledger.proofs.Laws.{cells, other_place}
 use Rattle.row.specs.Release.{release_refusal, given_to, released, Released}
 use Rattle.row.specs.ReleaseLaws.{releasable}
 use Rattle.spend.specs.declared.Meter.{Meter}
@@ -40,7 +40,7 @@ use Rattle.settle.specs.RunsLaws.{runs}
 use Rattle.settle.specs.After.{row_after}
 use Rattle.judge.specs.Laws.{admitted}
 use Rattle.judge.specs.Cases.{by_cases, call_keeps}
-use Rattle.judge.specs.Proved.{own_verdict}
+use Rattle.judge.proofs.Proved.{own_verdict}
 use Rattle.flat_answers.specs.Answers.{flat_verdict}
 use Rattle.flat_frames.specs.declared.FlatJudged.{FlatJudged}
 use Rattle.flat_frames.specs.Frames.{JudgesFlat, ReleasesFlat}

@@ -17,7 +17,7 @@ use Rattle.settle.specs.declared.Verdict.{Verdict}
 use Rattle.places.specs.PlacesLaws.{heard_over}
 use Rattle.judge.specs.declared.Judgement.{Judgement}
 use Rattle.judge.specs.Judge.{Called, call_of}
-use Rattle.judge.specs.Proved.{same_call}
+use Rattle.judge.proofs.Proved.{same_call}
 use Rattle.tile.specs.declared.shares.Asked.{Asked}
 use Rattle.tile.specs.Tiles.{asked_of, Tiled}
 use Rattle.tile.specs.TilesLaws.{same_tile}

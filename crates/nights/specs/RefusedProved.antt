@@ -21,7 +21,7 @@ use Rattle.places.specs.PlacesLaws.{laid_none}
 use Rattle.judge.specs.declared.Judgement.{Judgement}
 use Rattle.judge.specs.Judge.{judge_of, Called, by_itself, call_of, Judges}
 use Rattle.judge.specs.Cases.{by_cases}
-use Rattle.judge.specs.Proved.{own_verdict, refused_call}
+use Rattle.judge.proofs.Proved.{own_verdict, refused_call}
 use Rattle.flat_answers.specs.Answers.{flat_verdict}
 use Rattle.flat_frames.specs.declared.FlatJudged.{FlatJudged}
 use Rattle.flat_frames.specs.Frames.{FreshensFlat, JudgesFlat, ReleasesFlat}

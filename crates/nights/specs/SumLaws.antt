@@ -4,7 +4,7 @@ use Rattle.std.proofs.Math.Path.{refl}
 use Rattle.std.proofs.Common.{sym, ◌∙◌, ap, subst, ⊎_elim, zero-le, add-zero, zero-add, arith, lit<, length-set, eq-eqb, ne_eqb, eqb-true}
 use Rattle.image.specs.Layout.{image_in}
 use Rattle.ledger.specs.Row.{frames, drops, octets, dropped, last, start, many, cell_count, cell}
-use Rattle.ledger.specs.Laws.{cells, other_place}
+use Rattle.ledger.proofs.Laws.{cells, other_place}
 use Rattle.row.specs.Fresh.{fresh_of}
 use Rattle.row.specs.Release.{release_refusal, given_to, released}
 use Rattle.row.specs.ReleaseLaws.{releasable}
@@ -26,7 +26,7 @@ use Rattle.settle.specs.RunsLaws.{runs}
 use Rattle.settle.specs.After.{row_after}
 use Rattle.judge.specs.Laws.{admitted}
 use Rattle.judge.specs.Cases.{by_cases, call_keeps}
-use Rattle.judge.specs.Proved.{own_verdict}
+use Rattle.judge.proofs.Proved.{own_verdict}
 use Rattle.kept.specs.Lists.{same_or_not}
 use Rattle.kept.specs.Fresh.{fresh_zero}
 use Rattle.kept.specs.Kept.{Kept}

@@ -10,7 +10,7 @@ use Rattle.ledger.specs.declared.Answer.TheVariants as answer
 use Rattle.ledger.specs.Answers.{answer_of}
 use Rattle.ledger.specs.Range.{unloaded}
 use Rattle.ledger.specs.Row.{units, many, cell_count, cell, put}
-use Rattle.ledger.specs.Laws.{cells, other_place}
+use Rattle.ledger.proofs.Laws.{cells, other_place}
 use Rattle.row.specs.Fresh.{fresh_of, Freshened}
 use Rattle.row.specs.Release.{release_refusal, given_to, released}
 use Rattle.row.specs.ReleaseLaws.{releasable}
@@ -37,7 +37,7 @@ use Rattle.judge.specs.Laws.{admitted}
 use Rattle.settle.specs.RunsLaws.{runs}
 use Rattle.settle.specs.After.{spent_at, row_after}
 use Rattle.judge.specs.Cases.{by_cases, call_keeps}
-use Rattle.judge.specs.Proved.{own_verdict}
+use Rattle.judge.proofs.Proved.{own_verdict}
 use Rattle.kept.specs.Lists.{same_or_not}
 use Rattle.kept.specs.Fresh.{fresh_units}
 use Rattle.kept.specs.Kept.{Kept}

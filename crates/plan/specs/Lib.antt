@@ -2,7 +2,6 @@
 pub mod Police
 pub mod Plan
 pub mod Sane
-pub mod Laws
 pub mod Proved
 pub mod Steps
 pub mod Enter

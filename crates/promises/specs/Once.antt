@@ -20,10 +20,10 @@ use Rattle.tile.specs.TilesLaws as tile
 use Rattle.lent.specs.declared.Event.{Event}
 use Rattle.lent.specs.declared.Told.{Told}
 use Rattle.lent.specs.Brings.{Brings}
-use Rattle.lent.specs.BringsLaws as lent
+use Rattle.lent.proofs.BringsLaws as lent
 use Rattle.records.specs.declared.Record.{Record}
 use Rattle.records.specs.Answer.{Reads}
-use Rattle.records.specs.Promises as records
+use Rattle.records.proofs.Promises as records
 use Rattle.flat_answers.specs.declared.FlatTile.{FlatTile}
 use Rattle.flat_lists.specs.declared.FlatRecord.{FlatRecord}
 use Rattle.flat_numbers.specs.Flat.{FreshLoad}

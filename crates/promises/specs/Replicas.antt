@@ -11,7 +11,7 @@ use Rattle.places.specs.Places.{ten_of, heard}
 use Rattle.replica.specs.Replica.{names}
 use Rattle.judge.specs.declared.Judgement.{Judgement}
 use Rattle.judge.specs.Judge.{judge_of, Judges}
-use Rattle.judge.specs.Proved as judge
+use Rattle.judge.proofs.Proved as judge
 use Rattle.flat_answers.specs.Answers.{flat_verdict}
 use Rattle.flat_frames.specs.declared.FlatJudged.{FlatJudged}
 use Rattle.flat_frames.specs.Frames.{JudgesFlat}
@@ -19,9 +19,9 @@ use Rattle.flat_frames.specs.FramesLaws as frames
 use Rattle.exactly.specs.First.{Some, NoneBefore}
 use Rattle.exactly.specs.Steps.{vlan_of, frame_page}
 use Rattle.exactly.specs.Replicas.{Names, Replicated}
-use Rattle.exactly.specs.ReplicasProved as turn
+use Rattle.exactly.proofs.ReplicasProved as turn
 use Rattle.exactly.specs.Matching.{Each, AsAFrame}
-use Rattle.exactly.specs.MatchingProved as matching
+use Rattle.exactly.proofs.MatchingProved as matching
 
 -- a replica's page, entry after entry of 12: each verdict is the first of 4, 7, 8, 9, 10, 11 that applies, on the row that the one before left; a frame
 -- that a refusal or one of drops 1 to 6 stops has none

@@ -3,9 +3,7 @@ pub mod List
 pub mod Answer
 pub mod Laws
 pub mod Walk
-pub mod Promises
 pub mod OfK
 pub mod Pins
 pub mod Bytes
 pub mod Differ
-pub mod ByteLaws

@@ -1,7 +1,4 @@
 -- Replicas: which entries of 12 yield one, and what it comes to.
 pub mod Replica
 pub mod Replicating
-pub mod ReplicaLaws
 pub mod Keeps
-pub mod ReplicaCases
-pub mod Proved

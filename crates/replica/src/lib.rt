@@ -70,6 +70,7 @@ fn one(
 }
 
 // All replicas of a frame on a VLAN, in table order, each on the row that the one before left; how many there are. What asks no VLAN is asked once.
+#[tactic(auto, using(image::specs::SoundLaws::held, laws::specs::Chain::lt_of))]
 fn all(
     image: &[u32],
     row: &mut [u64; CELLS],

@@ -8,7 +8,7 @@ use Rattle.fields.specs.Fields.{part_spc}
 use Rattle.ledger.specs.declared.Answer.TheVariants.{Refused, Done}
 use Rattle.ledger.specs.Row.{units, cell}
 use Rattle.ledger.specs.Range.{standing}
-use Rattle.ledger.specs.Laws.{part_spc_small, stands}
+use Rattle.ledger.proofs.Laws.{part_spc_small, stands}
 use Rattle.ledger.specs.Answers.{answer_of, said_of}
 use Rattle.row.specs.Release.{unreleased, release_refusal, given_to, released, Released, HasRoom, Releasable}
 

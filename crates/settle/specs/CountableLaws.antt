@@ -2,7 +2,7 @@
 use Rattle.std.specs.Prelude.{◌≡◌, refl, List, ℕ, ◌<◌}
 use Rattle.std.proofs.Common.{sym, ◌∙◌, ap, subst}
 use Rattle.ledger.specs.Row.{units, credit, frames, many}
-use Rattle.ledger.specs.Laws.{cells}
+use Rattle.ledger.proofs.Laws.{cells}
 use Rattle.ledger.specs.Stands.{Counted}
 use Rattle.spend.specs.declared.Counts.{Counts}
 use Rattle.plan.specs.declared.Course.{Course}

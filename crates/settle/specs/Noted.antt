@@ -2,7 +2,7 @@
 use Rattle.std.specs.Prelude.{◌≡◌, Bool, List, ℕ, ◌+◌, ◌<◌, length}
 use Rattle.std.proofs.Math.Dec.{lit≤}
 use Rattle.ledger.specs.Row.{units, credit, since, frames, octets, last, many, cell_count, cell}
-use Rattle.ledger.specs.Laws.{cells}
+use Rattle.ledger.proofs.Laws.{cells}
 use Rattle.spend.specs.Spend.{counted_of}
 use Rattle.settle.specs.Note.{noted}
 

@@ -10,7 +10,7 @@ use Rattle.plan.specs.declared.Planned.TheVariants.{Dropped, Goes}
 use Rattle.plan.specs.declared.Policed.TheVariants.{By}
 use Rattle.plan.specs.Plan.{course_of}
 use Rattle.plan.specs.Sane.{Sane, Follows}
-use Rattle.plan.specs.Laws.{follows_by}
+use Rattle.plan.proofs.Laws.{follows_by}
 use Rattle.settle.specs.Runs.{Runs, RunsAll}
 
 pub runs : (buffer : List ℕ) (w : Course) → Sound buffer → Sane (image_in buffer) w → Runs w

@@ -10,7 +10,7 @@ use Rattle.std.proofs.lemmas.List.{length-replicate, replicate-append-replicate}
 use Rattle.std.proofs.lemmas.List.Edits.{sets}
 use Rattle.std.proofs.Math.Seq.{length-sets}
 use Rattle.crc.specs.Crc.{word_in, words_in, start, finished, checksum}
-use Rattle.crc.specs.Laws.{words_in_append}
+use Rattle.crc.proofs.Laws.{words_in_append}
 use Rattle.image.specs.Rows.{Row, rows, room, before, index_of, table_count, row_of, size_of, most_of, start_of}
 use Rattle.image.specs.RowLaws.{size_positive, room_inside, same_place}
 use Rattle.image.specs.Blocks.{block_of}

@@ -1,7 +1,7 @@
 -- `crc::word_in` meets its contract: four bytes that go in are thirty-two bits that leave.
 use mathlib.Core.Path.{sym, ◌∙◌}
 use borrow.Author.Rules.{rules}
-use Rattle.crc.specs.Laws.{word_in_bits}
+use Rattle.crc.proofs.Laws.{word_in_bits}
 use Rattle.crc.proofs.word_in.Goals as goal
 
 pub returns : goal.returns

@@ -1,5 +1,5 @@
 -- `crc_long::turn_both` meets its contract: what the first word leaves with each register, and what the others leave, once for both.
-use Rattle.crc.specs.FourLaws.{turned}
+use Rattle.crc.proofs.FourLaws.{turned}
 use Rattle.crc_long.proofs.turn_both.Goals as goal
 
 pub returns : goal.returns

@@ -1,5 +1,5 @@
-use Rattle.crc.specs.FourLaws.{turn_more}
-use Rattle.crc.specs.Laws.{words_in_rest}
+use Rattle.crc.proofs.FourLaws.{turn_more}
+use Rattle.crc.proofs.Laws.{words_in_rest}
 use borrow.Author.Rules.{rules}
 use Rattle.crc_long.proofs.words_in_both.Goals as goal
 

@@ -5,7 +5,7 @@ use borrow.Author.Rules.{rules}
 use lib.Bits.{bit_xor}
 use Rattle.crc.specs.Crc.{bits_out}
 use Rattle.crc.specs.Bytes.{Taken}
-use Rattle.crc.specs.BytesLaws.{taken_none, taken_more, taken_all}
+use Rattle.crc.proofs.BytesLaws.{taken_none, taken_more, taken_all}
 use Rattle.crc_short_bytes.specs.Twice.{twice}
 use Rattle.crc_short_bytes.specs.ArmLaws.{halves}
 use Rattle.crc_short.specs.Turn.{reach}

@@ -2,7 +2,7 @@
 -- the last the low halves; what the last three leave is once for both.
 use borrow.Author.Rules.{rules}
 use lib.Bits.{xor_lt}
-use Rattle.crc.specs.FourLaws.{turned}
+use Rattle.crc.proofs.FourLaws.{turned}
 use Rattle.crc_short.specs.TurnLaws.{low_bits, high_bits, shared_rest}
 use Rattle.crc_short.proofs.turn.Goals as goal
 

@@ -4,9 +4,9 @@ use native.Mathlib.Omega.{arith}
 use borrow.Author.Rules.{rules}
 use lib.Bits.{bit_xor}
 use Rattle.crc.specs.Crc.{bits_out}
-use Rattle.crc.specs.ArmLaws.{itself}
+use Rattle.crc.proofs.ArmLaws.{itself}
 use Rattle.crc.specs.Bytes.{Taken}
-use Rattle.crc.specs.BytesLaws.{taken_none, taken_more, taken_all}
+use Rattle.crc.proofs.BytesLaws.{taken_none, taken_more, taken_all}
 use Rattle.crc_word.proofs.leaves.Goals.{then-j-lt1, else-j-lt1+then-j-lt2, else-j-lt1+else-j-lt2+then-j-lt3, else-j-lt1+else-j-lt2+else-j-lt3}
 use Rattle.crc_word.proofs.leaves.Goals as goal
 

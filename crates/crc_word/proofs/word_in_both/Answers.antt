@@ -4,7 +4,7 @@ use native.Mathlib.Omega.{arith}
 use borrow.Author.Rules.{rules}
 use lib.Bits.{bit_xor}
 use Rattle.crc.specs.Crc.{bits_out, word_in}
-use Rattle.crc.specs.Laws.{word_in_bits}
+use Rattle.crc.proofs.Laws.{word_in_bits}
 use Rattle.crc_word.proofs.word_in_both.Invariants.{Turned}
 use Rattle.crc_word.proofs.word_in_both.Goals as goal
 

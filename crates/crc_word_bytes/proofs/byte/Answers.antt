@@ -5,7 +5,7 @@ use Prim.Native.Nat.{ℕ, ◌+◌, ◌<◌}
 use lib.Dec.{T, eqb, lit<}
 use Rattle.crc.specs.Crc.{bit, bits_out}
 use Rattle.crc.specs.Arm.{pick, basis}
-use Rattle.crc.specs.ArmLaws.{bits_linear, arm}
+use Rattle.crc.proofs.ArmLaws.{bits_linear, arm}
 use Rattle.crc_word_bytes.proofs.byte.Goals as goal
 
 abbrev one : List ℕ

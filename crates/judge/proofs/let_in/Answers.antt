@@ -2,7 +2,7 @@
 use mathlib.Core.Path.{sym, subst, ◌∙◌}
 use Rattle.image.specs.Layout.{image_in}
 use Rattle.plan.specs.Sane.{Loaded}
-use Rattle.plan.specs.Laws.{policed}
+use Rattle.plan.proofs.Laws.{policed}
 use Rattle.settle.specs.Laws.{drop_carries}
 use Rattle.judge.specs.Laws.{is_policed}
 use Rattle.judge.proofs.let_in.Goals as goal

@@ -1,5 +1,5 @@
 -- `plan::course_on`: the fields that were read are the course's.
-use Rattle.plan.specs.Laws.{same_course}
+use Rattle.plan.proofs.Laws.{same_course}
 use Rattle.plan.proofs.course_on.Goals as goal
 
 pub returns : goal.returns

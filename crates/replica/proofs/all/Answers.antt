@@ -6,8 +6,8 @@ use Rattle.laws.specs.Chain.{lt_of}
 use Rattle.image.specs.Layout.{image_in}
 use Rattle.image.specs.SoundLaws.{held}
 use Rattle.plan.specs.Sane.{Loaded}
-use Rattle.plan.specs.Laws.{policed}
-use Rattle.replica.specs.ReplicaLaws.{carries_replica, few_entries, place_left, replicating_none, replicating_more, replicating_same, replicating_end, replicating_no}
+use Rattle.plan.proofs.Laws.{policed}
+use Rattle.replica.proofs.ReplicaLaws.{carries_replica, few_entries, place_left, replicating_none, replicating_more, replicating_same, replicating_end, replicating_no}
 use Rattle.replica.proofs.all.Goals as goal
 use Rattle.replica.proofs.all.Goals.{then-names, else-names}
 
@@ -27,12 +27,6 @@ police-policed-requires c = record { sound = c.requires.sound; port_bound = (c.r
 pub loop-i-init : goal.loop-i-init
 loop-i-init c = replicating_none _
 
-pub names-requires : goal.names-requires
-names-requires c = search (rules, held, lt_of)
-
-pub vlan_egr-egress-requires : goal.vlan_egr-egress-requires
-vlan_egr-egress-requires c = search (rules, held, lt_of)
-
 pub one-verdict-requires : goal.one-verdict-requires
 one-verdict-requires c = record { sound = c.requires.sound; port_bound = (c.requires.port_bound.0, c.requires.port_bound.3, omega (arith, c.requires.port_bound.2)); loaded = subst (Loaded (image_in c.args.image.now)) (sym c.police-policed.ensures) (policed _ _ _ _ _) }
 
@@ -41,7 +35,7 @@ put-requires c = place_left _ _ _ _ _ c.loop-i.invariant.few c.loop-i-test.true 
 
 pub loop-i-preserved : goal.loop-i-preserved
 loop-i-preserved c = elim c.if-names.branch [
-  | then-names w ↦ replicating_more _ _ _ _ _ _ _ _ _ _ _ _ _ _ c.loop-i.invariant c.loop-i-test.true (few_entries _ _ c.requires.sound c.count-entries.ensures.0) c.requires.in_bounds c.names.ensures w.if-names.true w.vlan_egr-egress.ensures.0 (carries_replica _ _ _ _ _ _ _ _ _ _ _ _ c.mac_at-destination.ensures refl c.police-policed.ensures w.one-verdict.ensures) w.put.ensures w.put.auto.places w.row-is w.places-is w.n-is refl
+  | then-names w ↦ replicating_more _ _ _ _ _ _ _ _ _ _ _ _ _ _ c.loop-i.invariant c.loop-i-test.true (few_entries _ _ c.requires.sound c.count-entries.ensures.0) c.requires.in_bounds c.names.ensures w.if-names.true (search rules) (carries_replica _ _ _ _ _ _ _ _ _ _ _ _ c.mac_at-destination.ensures refl c.police-policed.ensures w.one-verdict.ensures) w.put.ensures w.put.auto.places w.row-is w.places-is w.n-is refl
   | else-names w ↦ search (rules, replicating_same)
 ]
 

@@ -5,7 +5,7 @@ use Rattle.plan.specs.LetIn.{Inside}
 use Rattle.plan.specs.EnterLaws.{inside}
 use Rattle.plan.specs.Sane.{Loaded}
 use Rattle.settle.specs.Laws.{drop_carries}
-use Rattle.replica.specs.ReplicaLaws.{is_absent, is_placed}
+use Rattle.replica.proofs.ReplicaLaws.{is_absent, is_placed}
 use Rattle.replica.proofs.one.Goals as goal
 
 pub place-placed-requires : goal.place-placed-requires

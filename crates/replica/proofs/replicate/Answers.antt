@@ -2,7 +2,7 @@
 use mathlib.Core.Path.{subst}
 use Rattle.image.specs.Layout.{image_in}
 use Rattle.plan.specs.LetIn.{Through}
-use Rattle.replica.specs.ReplicaLaws.{none_of, all_of}
+use Rattle.replica.proofs.ReplicaLaws.{none_of, all_of}
 use Rattle.replica.proofs.replicate.Goals as goal
 
 pub all-requires : goal.all-requires

@@ -1,6 +1,6 @@
 -- `ledger::range::standing`: 31 and 30, then 39.
 use Rattle.laws.specs.Chain.{flags, at_zero, not_zero}
-use Rattle.ledger.specs.Laws.{loaded_as}
+use Rattle.ledger.proofs.Laws.{loaded_as}
 use Rattle.ledger.specs.Range.{standing}
 use Rattle.ledger.proofs.range.standing.Goals as goal
 

@@ -1,6 +1,6 @@
 use Prim.Native.Nat.{zero-le}
 use native.Mathlib.Omega.{arith}
-use Rattle.records.specs.ByteLaws.{differ_start, differ_short, differ_all, differ_here, differ_more}
+use Rattle.records.proofs.ByteLaws.{differ_start, differ_short, differ_all, differ_here, differ_more}
 use Rattle.records.proofs.bytes.differs.Goals as goal
 
 pub loop-i-init : goal.loop-i-init

@@ -3,7 +3,7 @@ use mathlib.Core.List.{[]}
 use Prim.Native.Nat.{zero-le}
 use native.Mathlib.Omega.{arith}
 use lib.Dec.{lit<}
-use Rattle.records.specs.ByteLaws.{number_none, number_more, number_small, number_fits, number_room}
+use Rattle.records.proofs.ByteLaws.{number_none, number_more, number_small, number_fits, number_room}
 use Rattle.records.proofs.bytes.number_at.Goals as goal
 
 pub loop-i-init : goal.loop-i-init

@@ -1,5 +1,5 @@
 -- `fresh::fresh_ledger`: refused, or full.
-use Rattle.ledger.specs.Laws.{loaded_as}
+use Rattle.ledger.proofs.Laws.{loaded_as}
 use Rattle.row.specs.FreshLaws.{not_fresh, is_fresh}
 use Rattle.row.proofs.fresh.fresh_ledger.Goals as goal
 

@@ -1,6 +1,6 @@
 -- `release::refusal`: what stands before every call, then 36 and 37.
 use Rattle.laws.specs.Chain.{at_zero, not_zero}
-use Rattle.ledger.specs.Laws.{sound_as}
+use Rattle.ledger.proofs.Laws.{sound_as}
 use Rattle.row.specs.Release.{release_refusal}
 use Rattle.row.proofs.release.refusal.Goals as goal
 

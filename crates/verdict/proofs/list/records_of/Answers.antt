@@ -2,7 +2,7 @@
 use Rattle.std.proofs.Common.{rules, ◌≡◌, ◌≤◌, ◌<◌, ℕ, List, length, arith, sym, ◌∙◌, ap, subst}
 use Rattle.records.specs.Answer.{told}
 use Rattle.records.specs.List.{stands_at}
-use Rattle.records.specs.Promises.{inside, frame_order, frame_within}
+use Rattle.records.proofs.Promises.{inside, frame_order, frame_within}
 use Rattle.records.specs.Walk.{Inside}
 use Rattle.records.specs.declared.Record.{Record}
 use Rattle.records.specs.declared.Record.TheVariants as answer

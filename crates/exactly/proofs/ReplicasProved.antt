@@ -12,7 +12,7 @@ use Rattle.settle.specs.declared.Verdict.TheVariants.{Drop, Sent}
 use Rattle.settle.specs.Settle.{carried_out}
 use Rattle.places.specs.PlacesLaws.{heard_over}
 use Rattle.replica.specs.Replica.{names, replica_plan, Replicas, replicas_to, replicas_in}
-use Rattle.replica.specs.ReplicaLaws.{to_more, to_same}
+use Rattle.replica.proofs.ReplicaLaws.{to_more, to_same}
 use Rattle.judge.specs.declared.Judgement.{Judgement}
 use Rattle.judge.specs.Judge.{judge_of, call_of, answer_of, Judges}
 use Rattle.flat_frames.specs.declared.FlatJudged.{FlatJudged}

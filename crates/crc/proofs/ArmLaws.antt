@@ -7,7 +7,7 @@ use Rattle.std.proofs.Math.Arith.{mod-mul}
 use Rattle.std.specs.Int.Bits.{bit_xor, xor_shifted}
 use Rattle.std.proofs.lemmas.Nat.{xor_comm}
 use Rattle.crc.specs.Crc.{bits_out}
-use Rattle.crc.specs.Laws.{bits_out_lt, bits_out_linear, bits_out_shifted}
+use Rattle.crc.proofs.Laws.{bits_out_lt, bits_out_linear, bits_out_shifted}
 use Rattle.crc.specs.Arm.{pick, basis, Linear}
 
 -- a number's lowest digit and the rest, each at its place

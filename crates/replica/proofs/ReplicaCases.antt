@@ -14,7 +14,7 @@ use Rattle.settle.specs.Settle.{Judged}
 use Rattle.settle.specs.Carried.{carried_by_cases}
 use Rattle.replica.specs.Replica.{names, replica_plan, Replicas, replicas_to, replicas_of}
 use Rattle.replica.specs.Keeps.{Keeps}
-use Rattle.replica.specs.ReplicaLaws.{replica_follows, to_more, to_same}
+use Rattle.replica.proofs.ReplicaLaws.{replica_follows, to_more, to_same}
 
 module _ (image g : List ℕ) (port time : ℕ) (frame : List ℕ) (P : List Verdict → List ℕ → Type 0) where
   module _ (vlan priority : ℕ) (none : P [] g) (keeps : Keeps image port time frame P priority) where

@@ -15,7 +15,7 @@ use Rattle.plan.specs.Enter.{enter_of}
 use Rattle.settle.specs.declared.Verdict.TheVariants.{Refused}
 use Rattle.settle.specs.Settle.{Judged, judged, carried_out}
 use Rattle.replica.specs.Replica.{names, replicas, replicas_of}
-use Rattle.replica.specs.Proved.{one_each, none_named}
+use Rattle.replica.proofs.Proved.{one_each, none_named}
 use Rattle.judge.specs.declared.Judgement.{Judgement}
 use Rattle.judge.specs.Refusal.{unjudged, refusal_of}
 use Rattle.judge.specs.Judge.{plan_for, noted_of, judge_of, entered_of, Called, called, by_itself, call_of, Judges}

@@ -5,9 +5,9 @@ use Rattle.std.proofs.Common.{sym, ap, ap₂, ◌∙◌, div-one, mod-lt, mod-eq
 use Rattle.std.proofs.Math.Nat.{mod-one, mod-le}
 use Rattle.std.specs.Int.Bits.{bit_xor}
 use Rattle.crc.specs.Crc.{bits_out}
-use Rattle.crc.specs.Laws.{bits_out_lt, bits_out_linear, bits_out_past, byte_above}
+use Rattle.crc.proofs.Laws.{bits_out_lt, bits_out_linear, bits_out_past, byte_above}
 use Rattle.crc.specs.Arm.{Linear}
-use Rattle.crc.specs.ArmLaws.{bits_out_none}
+use Rattle.crc.proofs.ArmLaws.{bits_out_none}
 use Rattle.crc.specs.Bytes.{Taken}
 
 module _ {g : ℕ → ℕ} (linear : Linear g) where

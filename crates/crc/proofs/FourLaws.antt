@@ -6,7 +6,7 @@ use Rattle.std.proofs.Math.Numerals.{towards_suc}
 use Rattle.std.specs.Int.Bits.{bit_xor}
 use Rattle.crc.specs.Crc.{bits_out, words_in}
 use Rattle.crc.specs.Xor.{xor_assoc}
-use Rattle.crc.specs.Laws.{words_in_four}
+use Rattle.crc.proofs.Laws.{words_in_four}
 use Rattle.crc.specs.Four.{rest}
 
 pub turned : (r v w x y a b : ℕ) → v < 2 ^ 32 → w < 2 ^ 32 → x < 2 ^ 32 → y < 2 ^ 32

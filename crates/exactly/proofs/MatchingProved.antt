@@ -15,10 +15,10 @@ use Rattle.settle.specs.declared.Verdict.{Verdict}
 use Rattle.settle.specs.declared.Verdict.TheVariants.{Refused, Drop, Sent}
 use Rattle.places.specs.Places.{nowhere, ten_of, heard}
 use Rattle.replica.specs.Replica.{names}
-use Rattle.replica.specs.Proved.{as_many}
+use Rattle.replica.proofs.Proved.{as_many}
 use Rattle.judge.specs.declared.Judgement.{Judgement}
 use Rattle.judge.specs.Judge.{judge_of, by_itself, call_of, answer_of, Judges}
-use Rattle.judge.specs.Proved.{own_verdict, no_match}
+use Rattle.judge.proofs.Proved.{own_verdict, no_match}
 use Rattle.flat_answers.specs.Answers.{flat_verdict}
 use Rattle.flat_frames.specs.declared.FlatJudged.{FlatJudged}
 use Rattle.flat_frames.specs.Frames.{JudgesFlat}
@@ -29,8 +29,8 @@ use Rattle.exactly.specs.Replicas.{replica_page, replica_verdict_by, Names, InTu
 use Rattle.exactly.specs.Matching.{Each, AsAFrame}
 use Rattle.exactly.specs.ReplicasLaws.{is_named}
 use Rattle.exactly.specs.StepsProved as steps
-use Rattle.exactly.specs.ReplicasProved as replicas
-use Rattle.exactly.specs.ReplicasProved.{of_flat}
+use Rattle.exactly.proofs.ReplicasProved as replicas
+use Rattle.exactly.proofs.ReplicasProved.{of_flat}
 use Rattle.exactly.specs.PastLaws.{past_or_not, let_in, kept_out, called_past, called_alone}
 
 -- ---- which frames have replicas

@@ -11,7 +11,7 @@ use Rattle.addresses.specs.Address.{holds}
 use Rattle.frame.specs.Bytes.{octets_of}
 use Rattle.settle.specs.Settle.{carried_out}
 use Rattle.replica.specs.Replica.{names, replica_plan, Replicas, replicas, joined, replicas_to}
-use Rattle.replica.specs.ReplicaLaws.{to_more, to_same}
+use Rattle.replica.proofs.ReplicaLaws.{to_more, to_same}
 
 module _ (image g : List ℕ) (port time : ℕ) (frame : List ℕ) (vlan priority : ℕ) where
   pub as_many : (n : ℕ) → length (replicas_to image g port time frame vlan priority n).verdicts ≡ total n (λ i. flag (names image port vlan i))

@@ -19,7 +19,7 @@ use Rattle.plan.specs.declared.Policed.{Policed}
 use Rattle.plan.specs.Police.{policed_of}
 use Rattle.plan.specs.Plan.{by_policer, plan_of}
 use Rattle.plan.specs.Sane.{Follows}
-use Rattle.plan.specs.Laws.{follows}
+use Rattle.plan.proofs.Laws.{follows}
 use Rattle.settle.specs.declared.Verdict.{Verdict}
 use Rattle.settle.specs.declared.Verdict.TheVariants.{Drop}
 use Rattle.settle.specs.Laws.{carries_as, drop_carries}

@@ -1,0 +1,4 @@
+pub mod ArmLaws
+pub mod BytesLaws
+pub mod FourLaws
+pub mod Laws

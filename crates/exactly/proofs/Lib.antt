@@ -1,0 +1,2 @@
+pub mod MatchingProved
+pub mod ReplicasProved
