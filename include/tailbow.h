@@ -1,7 +1,7 @@
 /*
  * Tailbow for C and C++: loads an SJA1105TEL's static configuration, judges frames, shows tiles.
  *
- * Link libtailbow_c.a, which `rt staticlib tailbow_c` writes to target/staticlib/ once the crate is proved. It is for x86-64
+ * Link libtailbow_c.a, which `tools/archive` writes to target/staticlib/ once the crate is proved. It is for x86-64
  * and needs memcpy and memset, nothing else. The entries allocate nothing, print nothing and keep nothing between two
  * calls: all that they know is in what the caller lends. So calls on different buffers, load states and ledgers may run at the same time.
  *

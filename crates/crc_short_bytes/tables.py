@@ -134,4 +134,4 @@ def table(crate, head, entry, digits, counts, means, plain, uses, basis, unfoldi
 table("crc_short_bytes", SHORT, twice, 16, COUNTS, "twice (bits_out %d (b %% 256))", "plain",
     "use Rattle.crc_short_bytes.specs.Twice.{twice}\nuse Rattle.crc_short_bytes.specs.Arm.{basis}\nuse Rattle.crc_short_bytes.specs.ArmLaws.{arm}\nuse Rattle.crc.specs.Arm.{pick}", "basis %d 0 8", " twice basis", "arm %d")
 table("crc_word_bytes", WORD, after, 8, COUNTS[:4], "bits_out %d (b %% 256)", "bits_out",
-    "use Rattle.crc.specs.Arm.{pick, basis}\nuse Rattle.crc.specs.ArmLaws.{bits_linear, arm}", "basis (bits_out %d) 0 8", "", "arm (bits_linear %d)")
+    "use Rattle.crc.specs.Arm.{pick, basis}\nuse Rattle.crc.proofs.ArmLaws.{bits_linear, arm}", "basis (bits_out %d) 0 8", "", "arm (bits_linear %d)")
