@@ -1,7 +1,7 @@
 #!/usr/bin/env python3
 """Brings the repository's own definitions and lemmas to one spelling: a word's parts are joined by `_`, and only types and modules have capitals.
 
-usage: tools/respell.py          once, at the top, behind /opt/rattle/port/port.py. It rewrites crates/**/*.antt, the clauses in crates/**/*.rt and the texts of crates/**/*.edit.
+usage: tools/respell.py          once, at the top, behind the toolchain's own port.py. It rewrites crates/**/*.antt, the clauses in crates/**/*.rt and the texts of crates/**/*.edit.
        tools/respell.py --names  prints what it would rename, old name and new
 
 A name is the repository's own where one of its .antt files gives it a type, binds it or lists it as a field. What a file imports from a library of the kit keeps

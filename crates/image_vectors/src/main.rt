@@ -4,7 +4,6 @@
 // before is never printed, nor is one behind it.
 #![tactic(auto)]
 
-ghost use Rattle.std.specs.Prelude.{◌≤◌, length, IfOk};
 ghost use Rattle.image.specs.Layout.{Held};
 ghost use Rattle.image.specs.Sound.{Bounded};
 ghost use Rattle.image.specs.declared.tables.Table.TheVariants.{AddressLookup, Policing, VlanLookup, Forwarding, MacConfiguration, ForwardingParameters, Retagging};
@@ -12,8 +11,9 @@ ghost use Rattle.image.specs.declared.tables.Table.TheVariants.{AddressLookup, P
 use fields::{address, forwarding, mac, parameters, policing, retagging, vlan};
 use image::tables::{TABLES, Table};
 use image::{IMAGE_WORDS, count, tables};
+use input::fill;
 use std::io;
-use std::io::{Read, Write};
+use std::io::Write;
 use stream::bytes::word_at;
 use stream::{Phase, states};
 
@@ -173,24 +173,9 @@ fn print_before<W: Write>(
     Ok(false)
 }
 
-// Reads until buf is full or the input ends. The answer is how many bytes came.
-fn read_full<R: Read>(input: &mut R, buf: &mut [u8]) -> io::Result<usize>
-    ensures { IfOk result (λ n. n ≤ length buf.new) }
-{
-    let mut done = 0;
-    while done < buf.len() {
-        let n = input.read(&mut buf[done..])?;
-        if n == 0 {
-            break;
-        }
-        done += n;
-    }
-    Ok(done)
-}
-
 fn main(rt: HostRuntime) -> io::Result<()> {
     let mut bytes = [0u8; 65536];
-    let n = read_full(&mut rt.reader(), &mut bytes)?;
+    let n = fill(&mut rt.reader(), &mut bytes).count;
     let mut out = io::writer(&rt);
     let mut image = [0u32; IMAGE_WORDS];
     let mut load = states::fresh();

@@ -2,7 +2,7 @@
 // program alone: tests/cases/src/bin/loader_vectors.rs made them and says how.
 #![tactic(auto)]
 
-ghost use Rattle.std.specs.Prelude.{◌<◌, ◌≤◌, length, IfOk};
+ghost use Rattle.std.specs.Prelude.{◌<◌, ◌≤◌, length};
 
 use crc_both::Both;
 use image::IMAGE_WORDS;
@@ -121,43 +121,28 @@ fn run<W: Write>(out: &mut W, bytes: &[u8]) -> io::Result<()> {
     Ok(())
 }
 
-// Reads until buf is full or the input ends. The answer is how many bytes came.
-fn read_full<R: Read>(input: &mut R, buf: &mut [u8]) -> io::Result<usize>
-    ensures { IfOk result (λ n. n ≤ length buf.new) }
-{
-    let mut done = 0;
-    while done < buf.len() {
-        let n = input.read(&mut buf[done..])?;
-        if n == 0 {
-            break;
-        }
-        done += n;
-    }
-    Ok(done)
-}
-
 // The next n bytes of the input, at the buffer's start. The answer is how many came.
-fn fill<R: Read>(input: &mut R, buffer: &mut [u8], n: usize) -> io::Result<usize>
-    ensures { IfOk result (λ came. came ≤ length buffer.new) }
+fn fill<R: Read>(input: &mut R, buffer: &mut [u8], n: usize) -> usize
+    ensures { result ≤ length buffer.new }
 {
     if buffer.len() < n {
-        return Ok(0);
+        return 0;
     }
-    read_full(input, &mut buffer[..n])
+    input::fill(input, &mut buffer[..n]).count
 }
 
 // One case: a name of 32 bytes, a length, the stream. False where there is none.
 fn next<R: Read, W: Write>(input: &mut R, out: &mut W) -> io::Result<bool> {
     let mut name = [0u8; 32];
-    if read_full(input, &mut name)? < 32 {
+    if input::fill(input, &mut name).count < 32 {
         return Ok(false);
     }
     let mut size = [0u8; 4];
-    if read_full(input, &mut size)? < 4 {
+    if input::fill(input, &mut size).count < 4 {
         return Ok(false);
     }
     let mut buffer = [0u8; 65536];
-    let n = fill(input, &mut buffer, word_at(&size, 0) as usize)?;
+    let n = fill(input, &mut buffer, word_at(&size, 0) as usize);
     out.write_all(&name)?;
     run(out, &buffer[..n])?;
     writeln!(out)?;

@@ -1,5 +1,5 @@
 // The stream's file: counted first, then sent in writes.
-use crate::list::fill;
+use input::fill;
 use std::fs;
 use std::io::Read;
 use std::rt::Files;

@@ -1,7 +1,6 @@
 // The list of records: read whole, walked with one ledger, then the tiles.
-ghost use Rattle.std.specs.Prelude.{◌≡◌, ◌≤◌, length, take};
-
 use crate::print;
+use input::fill;
 use ledger::CELLS;
 use places::PLACES;
 use records::{Record, Refusal};
@@ -12,37 +11,6 @@ use std::io::{Read, Write};
 
 // One byte more than the most bytes, so that a list that is too long shows.
 const MOST: usize = 16385;
-
-// How many bytes were read, and whether a read failed.
-#[derive(Clone, Copy)]
-pub struct Filled {
-    pub count: usize,
-    pub broken: bool,
-}
-
-// Reads until buf is full, the input ends or a read fails.
-pub fn fill<R: Read>(input: &mut R, buf: &mut [u8]) -> Filled
-    ensures in_bounds { result.count ≤ length buf.new }
-    ensures taken { result.count ≡ length (take result.count buf.new) }
-{
-    let mut count: usize = 0;
-    while count < buf.len() {
-        match input.read(&mut buf[count..]) {
-            Ok(0) => break,
-            Ok(n) => count += n,
-            Err(_) => {
-                return Filled {
-                    count,
-                    broken: true,
-                };
-            }
-        }
-    }
-    Filled {
-        count,
-        broken: false,
-    }
-}
 
 // Each record in turn, and what it tells, a frame's replicas right behind it; the row is brought up to date by each. What is left of the walk ends it.
 fn records_of<W: Write>(

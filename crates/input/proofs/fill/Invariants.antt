@@ -1,6 +1,6 @@
--- `verdict::list::fill`: what is read stands in the buffer, and what is left of it falls.
+-- `input::fill`: what is read stands in the buffer, and what is left of it falls.
 use Rattle.std.proofs.Common.{◌-◌, ◌≤◌, ◌≡◌, length}
-use Rattle.verdict.proofs.list.fill.Given as goal
+use Rattle.input.proofs.fill.Given as goal
 
 abbrev pub invariant-loop-count : goal.invariant-loop-count
 invariant-loop-count g l = (l.count ≤ length l.buf) × (length l.buf ≡ length l.initial.buf)
