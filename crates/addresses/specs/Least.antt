@@ -1,7 +1,8 @@
--- How a loop that scans for the least key stands: the best match so far, and what has been scanned.
+-- How a loop that scans for the least key stands, and what the scan gives.
 use Rattle.std.specs.Prelude.{◌≡◌, Bool, true, false, ℕ, ◌<◌, ◌≤◌}
 use Rattle.laws.specs.Scan.{least}
 
+-- ---- a search that keeps the best so far in two numbers; Leading is of one that keeps an Option
 -- after i indices: none has passed, and the loop holds n and a key above every key; or b is the least, and the loop holds its key
 pub data Leads (n top : ℕ) (p : ℕ → Bool) (key : ℕ → ℕ) (i b low : ℕ) : Type 0 where
   none_yet : least i p key ≡ i → b ≡ n → low ≡ top → Leads n top p key i b low

@@ -12,23 +12,23 @@ use Rattle.addresses.specs.Least.{Leads, none_yet, best_yet, Lowest, Scanned, no
 
 -- ---- one index more, at the definition's suc i
 module _ (p : ℕ → Bool) (key : ℕ → ℕ) (i : ℕ) where
-  not_this : (b : ℕ) → least i p key ≡ b → b < i → p i ≡ false → least (suc i) p key ≡ b
+  pub not_this : (b : ℕ) → least i p key ≡ b → b < i → p i ≡ false → least (suc i) p key ≡ b
   unfolding least
   not_this b e l h = rw (h, e, lt-ltb b i l) refl
 
-  still_none : least i p key ≡ i → p i ≡ false → least (suc i) p key ≡ suc i
+  pub still_none : least i p key ≡ i → p i ≡ false → least (suc i) p key ≡ suc i
   unfolding least
   still_none e h = rw (h, e, le-ltb i i (le_refl i)) refl
 
-  first_match : least i p key ≡ i → p i ≡ true → least (suc i) p key ≡ i
+  pub first_match : least i p key ≡ i → p i ≡ true → least (suc i) p key ≡ i
   unfolding least
   first_match e h = rw (h, e, le-ltb i i (le_refl i)) refl
 
-  lower : (b : ℕ) → least i p key ≡ b → b < i → p i ≡ true → key i < key b → least (suc i) p key ≡ i
+  pub lower : (b : ℕ) → least i p key ≡ b → b < i → p i ≡ true → key i < key b → least (suc i) p key ≡ i
   unfolding least
   lower b e l h k = rw (h, e, lt-ltb b i l, lt-ltb (key i) (key b) k) refl
 
-  no_lower : (b : ℕ) → least i p key ≡ b → b < i → p i ≡ true → key b ≤ key i → least (suc i) p key ≡ b
+  pub no_lower : (b : ℕ) → least i p key ≡ b → b < i → p i ≡ true → key b ≤ key i → least (suc i) p key ≡ b
   unfolding least
   no_lower b e l h k = rw (h, e, lt-ltb b i l, le-ltb (key i) (key b) k) refl
 
@@ -37,6 +37,8 @@ by_test : {C : Type 0} (t : Bool) → (t ≡ true → C) → (t ≡ false → C)
 by_test true f g = f refl
 by_test false f g = g refl
 
+-- ---- the best so far
+-- These laws are of a search that keeps the best so far in two numbers; leading_first and those beside it are of one that keeps an Option.
 and_first : (a b : Bool) → cond a b false ≡ true → a ≡ true
 and_first true b e = refl
 and_first false b e = e
@@ -135,7 +137,7 @@ below_suc n C f c j l = ⊎_elim (λ e. subst C (sym e) c) (λ lt. f j lt) (eq-o
 never : {C : Type 0} (t : Bool) → t ≡ false → t ≡ true → C
 never t a b = absurd (mathlib.Core.Bool.false≢true (sym a ∙ b))
 
-least_zero : (p : ℕ → Bool) (key : ℕ → ℕ) → least 0 p key ≡ 0
+pub least_zero : (p : ℕ → Bool) (key : ℕ → ℕ) → least 0 p key ≡ 0
 unfolding least
 least_zero p key = refl
 

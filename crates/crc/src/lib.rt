@@ -9,13 +9,15 @@ ghost use Rattle.crc.specs.Crc.{bit, bits_out, word_in, finished};
 pub const START: u32 = 0xFFFF_FFFF;
 
 // One bit leaves the register. The branch is what the compiler knows a CRC by, and turns into a table of its own.
+#[tactic(auto, unfolding(crate::specs::Crc::bit))]
 fn bit_out(r: u32) -> u32
     ensures { result ≡ bit r }
 {
     if r % 2 == 1 {
-        return 0xEDB8_8320 ^ (r >> 1);
+        0xEDB8_8320 ^ (r >> 1)
+    } else {
+        r >> 1
     }
-    r >> 1
 }
 
 // k bits leave the register.
@@ -23,10 +25,8 @@ pub fn bits_out(r: u32, k: u32) -> u32
     ensures { result ≡ bits_out k r }
 {
     let mut x = r;
-    let mut i: u32 = 0;
-    while i < k {
+    for _ in 0..k {
         x = bit_out(x);
-        i += 1;
     }
     x
 }
@@ -39,6 +39,7 @@ pub fn word_in(r: u32, w: u32) -> u32
 }
 
 // The checksum that a register stands for.
+#[tactic(auto, unfolding(crate::specs::Crc::finished))]
 pub fn finish(r: u32) -> u32
     ensures { result ≡ finished r }
 {

@@ -1,4 +1,5 @@
-// Two registers at once, by the plain loops: the few words that a run by table leaves over go in here.
+// Two registers at once: words one by one, by the plain loops, and four a turn, by tables that a way to sum them brings along (crc_long, crc_short). The
+// few words that a run of turns leaves over go in one by one.
 #![tactic(auto)]
 
 ghost use Rattle.std.specs.Prelude.{◌≡◌};
@@ -22,14 +23,32 @@ fn word_in_both(both: Both, w: u32) -> Both
 }
 
 // Words go into both.
+#[tactic(auto, using(crc::proofs::Laws::words_in_more, crc::proofs::Laws::words_in_done))]
 pub fn words_in_both(both: Both, words: &[u32]) -> Both
     ensures { (result.block ≡ words_in both.block words.now) × (result.stream ≡ words_in both.stream words.now) }
 {
     let mut x = both;
-    let mut i = 0;
-    while i < words.len() {
-        x = word_in_both(x, words[i]);
-        i += 1;
+    for w in words {
+        x = word_in_both(x, *w);
     }
     x
+}
+
+// A way to sum words, four a turn.
+pub trait Sums {
+    // Four words go into both.
+    fn turn(&self, both: Both, words: &[u32; 4]) -> Both
+        ensures { (result.block ≡ words_in both.block words.now) × (result.stream ≡ words_in both.stream words.now) };
+
+    // Words go into both.
+    fn words_in(&self, both: Both, words: &[u32]) -> Both
+        ensures { (result.block ≡ words_in both.block words.now) × (result.stream ≡ words_in both.stream words.now) }
+    {
+        let (turns, rest) = words.as_chunks::<4>();
+        let mut x = both;
+        for turn in turns {
+            x = self.turn(x, turn);
+        }
+        words_in_both(x, rest)
+    }
 }

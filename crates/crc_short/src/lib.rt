@@ -8,98 +8,58 @@
 // least: in others two addresses more are made in each turn. The number is chosen in the loop itself: by a function of its own it is not unrolled.
 #![tactic(auto)]
 
-ghost use Rattle.std.specs.Prelude.{◌≡◌, [], ◌∷◌, ◌/◌, ◌%◌, ◌^◌};
+ghost use Rattle.std.specs.Prelude.{◌≡◌, ℕ, ◌/◌, ◌%◌, ◌^◌, ◌<◌, slice_index};
 ghost use Rattle.crc.specs.Crc.{bits_out, words_in};
 ghost use Rattle.crc_short_bytes.specs.Twice.{twice};
 ghost use Rattle.crc_short.specs.Turn.{reach};
 
-use crc_both::Both;
+use crc_both::{Both, Sums};
 use crc_short_bytes::byte;
 
-// What five words leave by the tables.
-#[derive(Clone, Copy)]
-struct Left {
-    pub a: u64,
-    pub b: u64,
-    pub c: u64,
-    pub d: u64,
-    pub e: u64,
-}
-
 // What is kept of the k-th of five words: of the first three what a word leaves that one follows, of the last two what one leaves that none follows.
-fn kept(w: u32, k: u32) -> u64
+fn kept(w: u32, k: usize) -> u64
     ensures { result ≡ twice (bits_out (reach k) w) }
 {
     let mut rest = w;
     let mut left: u64 = 0;
-    let mut j: u32 = 0;
-    while j < 4 {
+    for j in 0..4u32 {
         let b = byte(rest);
         let u = if k < 3 {
-            if j < 1 {
-                b.eight
-            } else if j < 2 {
-                b.seven
-            } else if j < 3 {
-                b.six
-            } else {
-                b.five
+            match j {
+                0 => b.eight,
+                1 => b.seven,
+                2 => b.six,
+                _ => b.five,
             }
         } else {
-            if j < 1 {
-                b.four
-            } else if j < 2 {
-                b.three
-            } else if j < 3 {
-                b.two
-            } else {
-                b.one
+            match j {
+                0 => b.four,
+                1 => b.three,
+                2 => b.two,
+                _ => b.one,
             }
         };
-        left = left ^ u;
-        rest = rest >> 8;
-        j += 1;
+        left ^= u;
+        rest >>= 8;
     }
     left
 }
 
-// What five words leave, each at its place.
-fn five(a: u32, b: u32, c: u32, d: u32, e: u32) -> Left
-    ensures { (result.a ≡ twice (bits_out 64 a)) × (result.b ≡ twice (bits_out 64 b))
-        × (result.c ≡ twice (bits_out 64 c)) × (result.d ≡ twice (bits_out 32 d)) × (result.e ≡ twice (bits_out 32 e)) }
+// What five words leave, each at its place. Words and numbers move up by one in each turn, so that every index is a constant: with the place as the index,
+// or the words from an iterator, the compiler keeps them in memory and unrolls nothing, and a run takes more than twice the instructions.
+fn five(words: [u32; 5]) -> [u64; 5]
+    ensures { (k : ℕ) → k < 5 → slice_index result k ≡ twice (bits_out (reach k) (slice_index words k)) }
 {
-    let mut a = a;
-    let mut b = b;
-    let mut c = c;
-    let mut d = d;
-    let mut f: u64 = 0;
-    let mut g: u64 = 0;
-    let mut h: u64 = 0;
-    let mut i: u64 = 0;
-    let mut j: u64 = 0;
-    let mut k: u32 = 0;
-    while k < 5 {
-        f = g;
-        g = h;
-        h = i;
-        i = j;
-        j = kept(a, k);
-        a = b;
-        b = c;
-        c = d;
-        d = e;
-        k += 1;
+    let mut rest = words;
+    let mut left = [0; 5];
+    for k in 0..5 {
+        left = [left[1], left[2], left[3], left[4], kept(rest[0], k)];
+        rest = [rest[1], rest[2], rest[3], rest[4], rest[4]];
     }
-    Left {
-        a: f,
-        b: g,
-        c: h,
-        d: i,
-        e: j,
-    }
+    left
 }
 
-// The half of a number that is what a word leaves.
+// The half of a number that is what a word leaves. Two lines here, and no crate below for them and for the halves of `flat_numbers`, which mean another thing.
 fn low(u: u64) -> u32
     ensures { result ≡ u % 2 ^ 32 }
 {
@@ -113,15 +73,19 @@ fn ahead(u: u64) -> u32
     (u >> 32) as u32
 }
 
-// Four words go into both.
-fn turn(both: Both, v: u32, w: u32, x: u32, y: u32) -> Both
-    ensures { (result.block ≡ words_in both.block (v ∷ w ∷ x ∷ y ∷ [])) × (result.stream ≡ words_in both.stream (v ∷ w ∷ x ∷ y ∷ [])) }
-{
-    let f = five(x, both.block ^ v, both.stream ^ v, w, y);
-    let shared = low(f.a) ^ low(f.e) ^ ahead(f.d);
-    Both {
-        block: ahead(f.b) ^ shared,
-        stream: ahead(f.c) ^ shared,
+// The tables that stand with the code.
+#[derive(Clone, Copy)]
+pub struct Short;
+
+impl Sums for Short {
+    fn turn(&self, both: Both, words: &[u32; 4]) -> Both {
+        let [v, w, x, y] = *words;
+        let left = five([x, both.block ^ v, both.stream ^ v, w, y]);
+        let shared = low(left[0]) ^ low(left[4]) ^ ahead(left[3]);
+        Both {
+            block: ahead(left[1]) ^ shared,
+            stream: ahead(left[2]) ^ shared,
+        }
     }
 }
 
@@ -129,11 +93,5 @@ fn turn(both: Both, v: u32, w: u32, x: u32, y: u32) -> Both
 pub fn words_in_both(both: Both, words: &[u32]) -> Both
     ensures { (result.block ≡ words_in both.block words.now) × (result.stream ≡ words_in both.stream words.now) }
 {
-    let mut x = both;
-    let mut i = 0;
-    while 4 <= words.len() - i {
-        x = turn(x, words[i], words[i + 1], words[i + 2], words[i + 3]);
-        i += 4;
-    }
-    crc_both::words_in_both(x, &words[i..])
+    Short.words_in(both, words)
 }

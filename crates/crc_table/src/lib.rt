@@ -1,34 +1,31 @@
-// The tables of CRC-32 by four words a turn, one for each place of a word in the turn. Each is 4 KiB: make it once, and lend it to every run.
+// The tables of CRC-32 by four words a turn, one for each place of a word in the turn. Each is 4 KiB: make them once, and lend them to every run.
 #![tactic(auto)]
 
 mod entries;
 
 ghost use Rattle.crc_table.specs.Table.{IsTable};
 
-// The table of a turn's first word, which three follow.
-pub fn first() -> [u32; 1024]
-    ensures { IsTable 3 result }
-{
-    entries::FIRST
+// The tables of a turn's words, in their order: three words follow the first, none the last.
+#[derive(Drop)]
+pub struct Tables {
+    pub first: [u32; 1024],
+    pub second: [u32; 1024],
+    pub third: [u32; 1024],
+    pub last: [u32; 1024],
 }
 
-// The table of a turn's second word.
-pub fn second() -> [u32; 1024]
-    ensures { IsTable 2 result }
-{
-    entries::SECOND
-}
-
-// The table of a turn's third word.
-pub fn third() -> [u32; 1024]
-    ensures { IsTable 1 result }
-{
-    entries::THIRD
-}
-
-// The table of a turn's last word.
-pub fn last() -> [u32; 1024]
-    ensures { IsTable 0 result }
-{
-    entries::LAST
+impl Tables {
+    pub fn new() -> Tables
+        ensures first { IsTable 3 result.first }
+        ensures second { IsTable 2 result.second }
+        ensures third { IsTable 1 result.third }
+        ensures last { IsTable 0 result.last }
+    {
+        Tables {
+            first: entries::FIRST,
+            second: entries::SECOND,
+            third: entries::THIRD,
+            last: entries::LAST,
+        }
+    }
 }

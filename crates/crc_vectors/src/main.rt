@@ -3,6 +3,7 @@
 #![tactic(auto)]
 
 use crc_both::Both;
+use crc_table::Tables;
 use std::io;
 use std::io::Write;
 
@@ -27,14 +28,7 @@ fn run_bytes<W: Write>(out: &mut W, bytes: &[u8]) -> io::Result<()> {
 
 // Words into two registers by the tables of a long run.
 fn by_long(both: Both, words: &[u32]) -> Both {
-    crc_long::words_in_both(
-        &crc_table::first(),
-        &crc_table::second(),
-        &crc_table::third(),
-        &crc_table::last(),
-        both,
-        words,
-    )
+    crc_long::words_in_both(&Tables::new(), both, words)
 }
 
 // Words into two registers, one by one.
@@ -84,10 +78,9 @@ fn run_two<W: Write>(out: &mut W, words: &[u32]) -> io::Result<()> {
 
 // The first n words, in every way.
 fn run<W: Write>(out: &mut W, words: &[u32], n: usize) -> io::Result<()> {
-    if words.len() < n {
+    let Some(part) = words.get(..n) else {
         return Ok(());
-    }
-    let part = &words[..n];
+    };
     run_one(out, part)?;
     run_two(out, part)
 }

@@ -10,27 +10,23 @@ ghost use Rattle.crc.specs.Crc.{bits_out, word_in};
 use crc_both::Both;
 use crc_word_bytes::byte;
 
-// What a word leaves: its bytes from the lowest on, fewer of them still to leave with each.
+// What a word leaves: its bytes from the lowest on, fewer of them still to leave with each. Not one with `kept` of crc_short: a lookup is one load only where its
+// tables have one caller, and the number is chosen in the loop itself.
 fn leaves(w: u32) -> u32
     ensures { result ≡ bits_out 32 w }
 {
     let mut rest = w;
     let mut left: u32 = 0;
-    let mut j: u32 = 0;
-    while j < 4 {
+    for j in 0..4u32 {
         let b = byte(rest);
-        let u = if j < 1 {
-            b.four
-        } else if j < 2 {
-            b.three
-        } else if j < 3 {
-            b.two
-        } else {
-            b.one
+        let u = match j {
+            0 => b.four,
+            1 => b.three,
+            2 => b.two,
+            _ => b.one,
         };
-        left = left ^ u;
-        rest = rest >> 8;
-        j += 1;
+        left ^= u;
+        rest >>= 8;
     }
     left
 }
@@ -39,18 +35,10 @@ fn leaves(w: u32) -> u32
 pub fn word_in_both(both: Both, w: u32) -> Both
     ensures { (result.block ≡ word_in both.block w) × (result.stream ≡ word_in both.stream w) }
 {
-    let mut next = both.block ^ w;
-    let mut older: u32 = 0;
-    let mut newer: u32 = 0;
-    let mut k: u32 = 0;
-    while k < 2 {
-        older = newer;
-        newer = leaves(next);
-        next = both.stream ^ w;
-        k += 1;
+    let mut registers = [both.block ^ w, both.stream ^ w];
+    for r in &mut registers {
+        *r = leaves(*r);
     }
-    Both {
-        block: older,
-        stream: newer,
-    }
+    let [block, stream] = registers;
+    Both { block, stream }
 }

@@ -7,8 +7,8 @@ use Rattle.image.specs.Layout.{image_in, count_of}
 use Rattle.image.specs.declared.tables.Table.TheVariants.{Retagging}
 use Rattle.fields.specs.Fields.{vlan_egr}
 use Rattle.lookup.specs.Vlan.{vlan_at}
-use Rattle.plan.specs.declared.enter.Entered.{Entered}
-use Rattle.plan.specs.declared.enter.Entered.TheVariants as entered
+use Rattle.plan.specs.Enter.{Entered}
+use Rattle.plan.specs.Enter as entered
 use Rattle.ports.specs.declared.Sending.{Sending}
 use Rattle.ports.specs.Ports.{ports_of, sending_of}
 use Rattle.settle.specs.declared.Verdict.{Verdict}

@@ -1,8 +1,6 @@
 -- A frame that gets past drop 6 has its replicas in turn, another none: whatever its call's promise permits.
-use Rattle.std.specs.Prelude.{◌≡◌, Bool, true, false, cond, List, [], ◌∷◌, map, eqb}
+use Rattle.std.proofs.Common.{ℕ, zero, suc, ◌≡◌, Bool, true, false, cond, List, [], ◌∷◌, map, eqb, sym, ◌∙◌, ap, subst, true≢false, eqb-true}
 use Rattle.std.proofs.Math.Path.{refl}
-use Rattle.std.proofs.Common.{sym, ◌∙◌, ap, subst, true≢false, eqb-true}
-use Prim.Native.Nat.{ℕ, zero, suc}
 use Rattle.image.specs.Layout.{image_in, count_of}
 use Rattle.image.specs.declared.tables.Table.TheVariants.{Retagging}
 use Rattle.fields.specs.Fields.{vlan_egr}

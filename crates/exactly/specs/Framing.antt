@@ -1,12 +1,11 @@
 -- Framing's page at a place where a block begins: each number's words from document 01's row, without the order, and then in the paper's order.
-use Rattle.std.specs.Prelude.{Bool, true, false, not, ◌&&◌, ◌||◌, List, [], ◌∷◌, ◌++◌, ℕ, ◌+◌, ◌/◌, ◌%◌, ltb, eqb, get_or, take, drop}
+use Rattle.std.specs.Prelude.{Bool, true, false, not, ◌&&◌, ◌||◌, List, [], ◌∷◌, ◌++◌, ℕ, ◌+◌, ◌/◌, ◌%◌, ltb, eqb, get_or, take, drop, Ok, Err}
 use Rattle.crc.specs.Crc.{checksum}
 use Rattle.image.specs.Rows.{size_of, most_of}
-use Rattle.image.specs.Blocks.{block_of}
+use Rattle.image.specs.Blocks.{Block, block_of}
 use Rattle.image.specs.declared.tables.Table.{Table}
 use Rattle.image.specs.declared.tables.Table.TheVariants.{AddressLookup}
-use Rattle.image.specs.declared.tables.Block.{Block}
-use Rattle.image.specs.declared.tables.Block.TheVariants.{Carried, NotCarried, Unknown}
+use Rattle.image.specs.declared.tables.NoTable.TheVariants.{NotCarried, Unknown}
 use Rattle.stream.specs.Header.{id_of, length_of}
 use Rattle.stream.specs.Paper.{put, had}
 use Rattle.exactly.specs.First.{Clause, test}
@@ -41,9 +40,9 @@ block_at p = block_of (id_at p)
 
 -- the ID's table; an ID that names none is asked for no table
 abbrev pub table_in : Block → Table
-table_in (Carried t) = t
-table_in NotCarried = AddressLookup
-table_in Unknown = AddressLookup
+table_in (Ok t) = t
+table_in (Err NotCarried) = AddressLookup
+table_in (Err Unknown) = AddressLookup
 
 -- and its table
 abbrev pub table_at : Place → Table

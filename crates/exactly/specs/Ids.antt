@@ -1,8 +1,7 @@
 -- A block's ID by the two lists that numbers 3 and 4 name, on the ID alone, and what it is to be named so.
-use Rattle.std.specs.Prelude.{◌≡◌, Bool, true, false, not, ◌&&◌, List, [], ◌∷◌, ℕ}
-use Rattle.image.specs.Blocks.{table2, listed, block_of}
-use Rattle.image.specs.declared.tables.Block.{Block}
-use Rattle.image.specs.declared.tables.Block.TheVariants.{Carried, NotCarried, Unknown}
+use Rattle.std.specs.Prelude.{◌≡◌, Bool, true, false, not, ◌&&◌, List, [], ◌∷◌, ℕ, Ok, Err}
+use Rattle.image.specs.Blocks.{Block, table2, listed, block_of}
+use Rattle.image.specs.declared.tables.NoTable.TheVariants.{NotCarried, Unknown}
 
 -- "the table above": document 01's IDs, and document 02's behind them: "4 no longer covers ID 12"
 abbrev pub carried_ids : List ℕ
@@ -22,21 +21,21 @@ other_id id = listed id table2 && not (carried_id id)
 
 -- the three cases of what an ID names: none of table 2's
 abbrev pub is_unknown : Block → Bool
-is_unknown (Carried t) = false
-is_unknown NotCarried = false
-is_unknown Unknown = true
+is_unknown (Ok t) = false
+is_unknown (Err NotCarried) = false
+is_unknown (Err Unknown) = true
 
 -- one of table 2's that is not carried
 abbrev pub is_other : Block → Bool
-is_other (Carried t) = false
-is_other NotCarried = true
-is_other Unknown = false
+is_other (Ok t) = false
+is_other (Err NotCarried) = true
+is_other (Err Unknown) = false
 
 -- one that is carried
 abbrev pub is_carried : Block → Bool
-is_carried (Carried t) = true
-is_carried NotCarried = false
-is_carried Unknown = false
+is_carried (Ok t) = true
+is_carried (Err NotCarried) = false
+is_carried (Err Unknown) = false
 
 -- what an ID names says these three, for any number as an ID
 pub record Names (id : ℕ) : Type 0 where

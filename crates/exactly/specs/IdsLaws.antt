@@ -1,12 +1,12 @@
 -- What an ID names, as the loader's forms share it in `block_of`, and the lists of numbers 3 and 4 agree at every ID.
-use Rattle.std.specs.Prelude.{◌≡◌, refl, Bool, true, false, cond, not, ◌&&◌, ◌||◌, List, [], ◌∷◌, ℕ, eqb}
+use Rattle.std.specs.Prelude.{◌≡◌, refl, Bool, true, false, cond, not, ◌&&◌, ◌||◌, List, [], ◌∷◌, ℕ, eqb, Ok, Err}
 use Rattle.std.proofs.Common.{sym, ◌∙◌, ap, subst, true≢false, eqb-true}
 use Rattle.std.proofs.lemmas.Bool.{false≢true}
 use Rattle.laws.specs.Agree.{agree}
 use Rattle.laws.specs.Chain.{agreed}
 use Rattle.image.specs.Rows.{Row, rows}
 use Rattle.image.specs.Blocks.{table2, listed, block_in, block_of}
-use Rattle.image.specs.declared.tables.Block.TheVariants.{Carried, NotCarried, Unknown}
+use Rattle.image.specs.declared.tables.NoTable.TheVariants.{NotCarried, Unknown}
 use Rattle.exactly.specs.Ids.{carried_ids, carried_id, unknown_id, other_id, is_unknown, is_other, is_carried, Names}
 
 -- ---- an ID that is in the list: computed for each
@@ -38,12 +38,12 @@ abbrev ids_of : List Row → List ℕ
 ids_of [] = []
 ids_of (r ∷ rs) = r.id ∷ ids_of rs
 
-no_row : (id : ℕ) (rs : List Row) → listed id (ids_of rs) ≡ false → block_in id rs ≡ cond (listed id table2) NotCarried Unknown
+no_row : (id : ℕ) (rs : List Row) → listed id (ids_of rs) ≡ false → block_in id rs ≡ cond (listed id table2) (Err NotCarried) (Err Unknown)
 no_row id [] e = refl
 no_row id (r ∷ rs) e = go (λ h. no_row id rs h) (eqb id r.id) e
   where
-    go : (listed id (ids_of rs) ≡ false → block_in id rs ≡ cond (listed id table2) NotCarried Unknown) → (t : Bool) → (t || listed id (ids_of rs)) ≡ false
-        → cond t (Carried r.table) (block_in id rs) ≡ cond (listed id table2) NotCarried Unknown
+    go : (listed id (ids_of rs) ≡ false → block_in id rs ≡ cond (listed id table2) (Err NotCarried) (Err Unknown)) → (t : Bool) → (t || listed id (ids_of rs)) ≡ false
+        → cond t (Ok r.table) (block_in id rs) ≡ cond (listed id table2) (Err NotCarried) (Err Unknown)
     go rest true h = absurd (true≢false h)
     go rest false h = rest h
 
@@ -56,18 +56,18 @@ another id e =
       carried = ap is_carried names ∙ none (listed id table2) ∙ sym e;
     }
   where
-    names : block_of id ≡ cond (listed id table2) NotCarried Unknown
+    names : block_of id ≡ cond (listed id table2) (Err NotCarried) (Err Unknown)
     names = no_row id rows e
 
-    strange : (t : Bool) → is_unknown (cond t NotCarried Unknown) ≡ not t
+    strange : (t : Bool) → is_unknown (cond t (Err NotCarried) (Err Unknown)) ≡ not t
     strange true = refl
     strange false = refl
 
-    two : (t : Bool) → is_other (cond t NotCarried Unknown) ≡ (t && not false)
+    two : (t : Bool) → is_other (cond t (Err NotCarried) (Err Unknown)) ≡ (t && not false)
     two true = refl
     two false = refl
 
-    none : (t : Bool) → is_carried (cond t NotCarried Unknown) ≡ false
+    none : (t : Bool) → is_carried (cond t (Err NotCarried) (Err Unknown)) ≡ false
     none true = refl
     none false = refl
 

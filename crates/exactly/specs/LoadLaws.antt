@@ -1,16 +1,13 @@
 -- The walk over a stream's blocks asks framing's tests in the page's order, and a stream is told one number: that of the paper's form.
-use Rattle.std.specs.Prelude.{◌≡◌, refl, Bool, true, false, cond, not, ◌&&◌, List, [], ◌∷◌, ◌++◌, ℕ, zero, suc, ◌+◌, ◌-◌, ◌/◌, ◌%◌, ◌≤◌, ltb, eqb, length, get_or, take, drop}
+use Rattle.std.specs.Prelude.{◌≡◌, refl, Bool, true, false, cond, not, ◌&&◌, List, [], ◌∷◌, ◌++◌, ℕ, zero, suc, ◌+◌, ◌-◌, ◌/◌, ◌%◌, ◌≤◌, ltb, eqb, length, get_or, take, drop, Ok, Err}
 use Rattle.std.proofs.Common.{sym, ◌∙◌, ap, subst, true≢false, not-suc-le-zero, le_refl, arith, length-drop, eqb-true}
 use Rattle.std.proofs.lemmas.Bool.{eqb-false}
 use Rattle.crc.specs.Crc.{checksum}
 use Rattle.image.specs.Rows.{size_of, most_of}
-use Rattle.image.specs.Blocks.{block_of}
+use Rattle.image.specs.Blocks.{Block, block_of}
 use Rattle.image.specs.declared.tables.Table.{Table}
-use Rattle.image.specs.declared.tables.Block.{Block}
-use Rattle.image.specs.declared.tables.Block.TheVariants.{Carried, NotCarried, Unknown}
-use Rattle.stream.specs.declared.Header.{Header}
-use Rattle.stream.specs.declared.Header.TheVariants.{Wrong, Right}
-use Rattle.stream.specs.Header.{device, id_of, length_of, header_of}
+use Rattle.image.specs.declared.tables.NoTable.TheVariants.{NotCarried, Unknown}
+use Rattle.stream.specs.Header.{Header, Wrong, Right, device, id_of, length_of, header_of}
 use Rattle.stream.specs.Paper.{Framed, refused, cut, passed, none, put, had, headed_by, checked, blocks, framed, refused_with, ended, outcome_of, loaded}
 use Rattle.image.specs.Layout.{image_of}
 use Rattle.rules.specs.Rules.{ruled}
@@ -114,7 +111,7 @@ by_name_lem turns before lists (h0 ∷ h1 ∷ h2 ∷ rest) =
     seven t sum after false = refl
 
     carry : (t : Table) (s8 w5 w6 : Bool) (left : List ℕ)
-        → Walks false s8 false (cond w5 (Wrong 5) (cond w6 (Wrong 6) (Right t))) left ≡ By false s8 false (Carried t) w5 w6 left
+        → Walks false s8 false (cond w5 (Wrong 5) (cond w6 (Wrong 6) (Right t))) left ≡ By false s8 false (Ok t) w5 w6 left
     carry t s8 true w6 left = refl
     carry t s8 false true left = refl
     carry t s8 false false [] = refl
@@ -124,9 +121,9 @@ by_name_lem turns before lists (h0 ∷ h1 ∷ h2 ∷ rest) =
     go true true s2 b left = refl
     go true false s2 b left = refl
     go false s8 true b left = refl
-    go false s8 false Unknown left = refl
-    go false s8 false NotCarried left = refl
-    go false s8 false (Carried t) left = carry t s8 (parts t) (over t) left
+    go false s8 false (Err Unknown) left = refl
+    go false s8 false (Err NotCarried) left = refl
+    go false s8 false (Ok t) left = carry t s8 (parts t) (over t) left
 
 -- the number that they come to
 abbrev number_at : Place → ℕ

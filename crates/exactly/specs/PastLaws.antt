@@ -12,9 +12,8 @@ use Rattle.broken.specs.Broken.{no_vlan}
 use Rattle.ledger.specs.Row.{frames, last, cell}
 use Rattle.ledger.specs.Range.{out_of_range}
 use Rattle.frame.specs.Bytes.{octets_of}
-use Rattle.plan.specs.declared.enter.Entered.{Entered}
-use Rattle.plan.specs.declared.enter.Entered.TheVariants as entered
-use Rattle.plan.specs.Enter.{enter_of}
+use Rattle.plan.specs.Enter.{Entered, enter_of}
+use Rattle.plan.specs.Enter as entered
 use Rattle.settle.specs.Settle.{Judged, carried_out}
 use Rattle.settle.specs.Note.{is_drop}
 use Rattle.places.specs.Places.{laid_over}

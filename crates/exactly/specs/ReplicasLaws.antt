@@ -1,5 +1,5 @@
 -- Each clause of a replica's page is decided by its test, and steps 4 and 7 to 11 ask theirs in the page's order.
-use Rattle.std.specs.Prelude.{◌≡◌, Bool, cond, List, ℕ, ◌-◌, ◌*◌, leb}
+use Rattle.std.specs.Prelude.{◌≡◌, Bool, cond, Some, None, Ok, Err, List, ℕ, ◌-◌, ◌*◌, leb}
 use Rattle.std.proofs.Math.Path.{refl, ap}
 use Rattle.std.proofs.Math.Bool.{true, false}
 use Rattle.image.specs.Layout.{count_of}
@@ -9,11 +9,10 @@ use Rattle.lookup.specs.Vlan.{vlan_at}
 use Rattle.broken.specs.Broken.{no_vlan}
 use Rattle.ledger.specs.Row.{units, cell}
 use Rattle.frame.specs.Bytes.{octets_of, destination_of}
-use Rattle.plan.specs.declared.enter.Placed.TheVariants.{Absent, At}
 use Rattle.plan.specs.Steps.{placed_of}
-use Rattle.plan.specs.declared.Policed.TheVariants.{Unmetered, TooLong, By}
+use Rattle.drops.specs.declared.Dropped.TheVariants.{NotPoliced, TooLong}
 use Rattle.plan.specs.declared.Course.{Course}
-use Rattle.plan.specs.Police.{policed_of}
+use Rattle.plan.specs.Police.{by, policed_of}
 use Rattle.plan.specs.Plan.{course_of, by_policer, plan_of}
 use Rattle.spend.specs.Spend.{spent, paid_of, spent_of}
 use Rattle.ports.specs.Ports.{sending_at, sending_of}
@@ -76,7 +75,7 @@ module _ (image g : List ℕ) (port time : ℕ) (frame : List ℕ) (vlan priorit
       go : (a b c : Bool) (n : ℕ) → (spent_at g course time (octets_of frame)).drop ≡ n
           → (carried_out g time (octets_of frame)
           (by_policer image port (destination_of frame) vlan (vlan_at image vlan) priority
-          (cond a Unmetered (cond b Unmetered (cond c TooLong (By k (meter_at image port frame priority))))))).verdict
+          (cond a (Err NotPoliced) (cond b (Err NotPoliced) (cond c (Err TooLong) (Ok (by k (meter_at image port frame priority)))))))).verdict
           ≡ replica_verdict_by image port frame vlan priority (cond (cond a true b) 7 (cond c 8 n))
       go true b c n e = refl
       go false true c n e = refl
@@ -93,7 +92,7 @@ module _ (image g : List ℕ) (port time : ℕ) (frame : List ℕ) (vlan priorit
     where
       go : (t : Bool) (n : ℕ)
           → (carried_out g time (octets_of frame) (plan_of image port frame vlan (vlan_at image vlan) priority)).verdict ≡ replica_verdict_by image port frame vlan priority n
-          → (carried_out g time (octets_of frame) (by_placed image port frame vlan priority (cond t Absent (At (vlan_at image vlan))))).verdict
+          → (carried_out g time (octets_of frame) (by_placed image port frame vlan priority (cond t None (Some (vlan_at image vlan))))).verdict
           ≡ replica_verdict_by image port frame vlan priority (cond t 4 n)
       go true n e = refl
       go false n e = e

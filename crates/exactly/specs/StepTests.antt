@@ -10,8 +10,7 @@ use Rattle.broken.specs.Broken.{no_vlan}
 use Rattle.ledger.specs.Row.{units, frames, last, cell}
 use Rattle.ledger.specs.Range.{out_of_range}
 use Rattle.frame.specs.Bytes.{octets_of, source_of}
-use Rattle.plan.specs.declared.enter.Entered.{Entered}
-use Rattle.plan.specs.declared.enter.Entered.TheVariants.{Dropped, In}
+use Rattle.plan.specs.Enter.{Entered, Dropped, In}
 use Rattle.plan.specs.Steps.{outsider}
 use Rattle.judge.specs.Refusal.{mistimed}
 use Rattle.exactly.specs.OnVlan.{policer_at, meter_at, credit_at, ports_on}

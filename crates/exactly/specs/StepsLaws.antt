@@ -1,5 +1,5 @@
 -- Each clause of a frame's page is decided by its test, and steps 1 to 6 ask theirs in the page's order.
-use Rattle.std.specs.Prelude.{◌≡◌, refl, Bool, true, false, cond, not, List, ltb, eqb, length}
+use Rattle.std.specs.Prelude.{◌≡◌, refl, Bool, true, false, cond, not, Some, None, List, ltb, eqb, length}
 use Rattle.std.proofs.Common.{sym, subst, inl, inr, ⊎_elim, lt_irrefl, lt_of_lt_of_le, ltb-true, ltb-false}
 use Prim.Native.Nat.{ℕ, ◌*◌, ◌/◌, ◌%◌, ◌^◌, ◌<◌}
 use Rattle.image.specs.Rows.{index_of, table_count, row_at, most_of}
@@ -14,16 +14,12 @@ use Rattle.addresses.specs.Address.{barred}
 use Rattle.broken.specs.Broken.{no_vlan}
 use Rattle.ledger.specs.Row.{units, credit, since, frames, drops, octets, dropped, last, cell}
 use Rattle.ledger.specs.Range.{latest, full_of, octets_off, counts_off, out_of_range, unloaded, standing}
-use Rattle.frame.specs.declared.Tag.TheVariants as tag
-use Rattle.frame.specs.declared.Intake.{Intake}
-use Rattle.frame.specs.declared.Intake.TheVariants as intake
-use Rattle.frame.specs.Bytes.{octets_of, source_of, pair_at, tag_of}
-use Rattle.frame.specs.Intake.{vlan_or, by_tag, intake_of}
-use Rattle.plan.specs.declared.enter.Placed.TheVariants as found
-use Rattle.plan.specs.declared.enter.Entered.{Entered}
-use Rattle.plan.specs.declared.enter.Entered.TheVariants as entered
+use Rattle.frame.specs.Intake.{Intake, vlan_or, by_tag, intake_of}
+use Rattle.frame.specs.Intake as intake
+use Rattle.frame.specs.Bytes.{octets_of, source_of, pair_at, tag, tag_of}
+use Rattle.plan.specs.Enter.{Entered, by_place, by_intake, enter_of}
+use Rattle.plan.specs.Enter as entered
 use Rattle.plan.specs.Steps.{placed_of, outsider, kept_out}
-use Rattle.plan.specs.Enter.{by_place, by_intake, enter_of}
 use Rattle.judge.specs.Refusal.{refusal_of}
 use Rattle.exactly.specs.Decides.{Decides, Decided}
 use Rattle.exactly.specs.DecidesLaws.{also, by_lt, by_le, by_eq, by_or, by_and, by_unless, by_when, by_words, by_not, by_some}
@@ -141,7 +137,7 @@ module _ (image : List ℕ) (port : ℕ) (frame : List ℕ) where
       five false false = refl
 
       four : (t : Bool)
-          → by_place image port frame vlan priority tagged (cond t found.Absent (found.At place))
+          → by_place image port frame vlan priority tagged (cond t None (Some place))
           ≡ cond t (entered.Dropped 4)
           (cond (outsider image port tagged place) (entered.Dropped 5)
           (cond (barred image port vlan (source_of frame)) (entered.Dropped 6) (entered.In vlan place priority)))
@@ -163,7 +159,7 @@ module _ (image : List ℕ) (port : ℕ) (frame : List ℕ) where
       untagged false = place_is (port_vlanid image port) (vlanprio image port) false
 
       three : (h : Bool)
-          → of (by_tag image port (cond h (tag.Tagged 12 (pair_at frame 14 / 8192 % 8) (tag_vlan frame)) tag.Untagged))
+          → of (by_tag image port (cond h (Some (tag 12 (pair_at frame 14 / 8192 % 8) (tag_vlan frame))) None))
           ≡ cond (cond h false (not (eqb (drpuntag image port) 0))) (entered.Dropped 3)
           (placed_by image port frame (cond h (vlan_or image port (tag_vlan frame)) (port_vlanid image port)) (cond h (pair_at frame 14 / 8192 % 8) (vlanprio image port)) h)
       three true = place_is (vlan_or image port (tag_vlan frame)) (pair_at frame 14 / 8192 % 8) true

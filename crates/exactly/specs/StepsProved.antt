@@ -11,11 +11,10 @@ use Rattle.broken.specs.Broken.{no_vlan}
 use Rattle.ledger.specs.Row.{frames, last, cell}
 use Rattle.ledger.specs.Range.{out_of_range}
 use Rattle.frame.specs.Bytes.{octets_of}
-use Rattle.plan.specs.declared.enter.Entered.{Entered}
-use Rattle.plan.specs.declared.enter.Entered.TheVariants as entered
+use Rattle.plan.specs.Enter.{Entered}
+use Rattle.plan.specs.Enter as entered
 use Rattle.plan.specs.declared.Course.{Course}
-use Rattle.plan.specs.declared.Planned.{Planned}
-use Rattle.plan.specs.Plan.{plan_of}
+use Rattle.plan.specs.Plan.{Planned, plan_of}
 use Rattle.settle.specs.declared.Verdict.{Verdict}
 use Rattle.settle.specs.declared.Verdict.TheVariants.{Refused, Drop, Sent}
 use Rattle.settle.specs.Settle.{settled_of, Judged, judged, carried_out}

@@ -1,21 +1,18 @@
 -- The proved table's one statement, proved from the definitions and from the pages.
-use Rattle.std.specs.Prelude.{◌≡◌, refl, true, false, cond, List, [], ◌∷◌, ◌++◌, ℕ, suc, ◌%◌, ◌<◌, ◌≤◌, ltb, length}
+use Rattle.std.specs.Prelude.{◌≡◌, refl, true, false, cond, List, [], ◌∷◌, ◌++◌, ℕ, suc, ◌%◌, ◌<◌, ◌≤◌, ltb, length, Ok}
 use Rattle.std.proofs.Common.{sym, ◌∙◌, ap, subst, true≢false, append-nil, zero-le, lt_irrefl, le_refl, lit<, ltb-true, lt-ltb, eq-eqb, ne_eqb}
 use Rattle.std.proofs.lemmas.Bool.{eqb-false}
 use Rattle.laws.specs.Scan.{total}
 use Rattle.crc.specs.Crc.{checksum}
 use Rattle.image.specs.Rows.{row_of, room}
-use Rattle.image.specs.Blocks.{block_of}
+use Rattle.image.specs.Blocks.{Block, block_of}
 use Rattle.image.specs.Layout.{image_in, entry_of}
 use Rattle.image.specs.declared.tables.Table.{Table}
 use Rattle.image.specs.declared.tables.Table.TheVariants.{AddressLookup, Policing, VlanLookup, Forwarding, MacConfiguration, LookupParameters, ForwardingParameters, GeneralParameters, XmiiModeParameters, Retagging}
-use Rattle.image.specs.declared.tables.Block.{Block}
-use Rattle.image.specs.declared.tables.Block.TheVariants.{Carried}
 use Rattle.fields.specs.Fields.{part_spc}
 use Rattle.fields.specs.Packed.{Packed}
 use Rattle.fields.specs.Proved.{row_a, row_b}
-use Rattle.stream.specs.declared.Header.TheVariants.{Wrong}
-use Rattle.stream.specs.Header.{device, id_of, length_of, header_of}
+use Rattle.stream.specs.Header.{Wrong, device, id_of, length_of, header_of}
 use Rattle.stream.specs.Paper.{refused, passed, none, had, blocks, framed}
 use Rattle.stream.specs.Order.{Piece, block_in, streamed, Proper, is_of, brings, after}
 use Rattle.stream.specs.OrderLaws.{ordered}
@@ -66,7 +63,7 @@ six : header_of (block_of 0x07) 8194 (had none) ≡ Wrong 6
 unfolding block_of
 six = refl
 
-names_vlan : block_of 0x07 ≡ Carried VlanLookup
+names_vlan : block_of 0x07 ≡ Ok VlanLookup
 unfolding block_of
 names_vlan = refl
 
@@ -76,7 +73,7 @@ fits p e0 e1 b end =
     ordered (p ∷ []) e0 e1 (proper, tt)
     (λ t. subst (λ (x : Block). length (cond (is_of t x) (p.words ++ []) []) ≤ room (row_of t)) (sym named) (within t)) end
   where
-    named : block_in p ≡ Carried VlanLookup
+    named : block_in p ≡ Ok VlanLookup
     named = ap block_of b.id_is ∙ names_vlan
 
     proper : Proper p
@@ -92,7 +89,7 @@ fits p e0 e1 b end =
     own : length (p.words ++ []) ≤ 8192
     own = subst (λ (n : ℕ). n ≤ 8192) (sym (ap length (append-nil p.words) ∙ b.words_are)) (le_refl 8192)
 
-    within : (t : Table) → length (cond (is_of t (Carried VlanLookup)) (p.words ++ []) []) ≤ room (row_of t)
+    within : (t : Table) → length (cond (is_of t (Ok VlanLookup)) (p.words ++ []) []) ≤ room (row_of t)
     within AddressLookup = zero-le
     within Policing = zero-le
     within VlanLookup = own

@@ -7,12 +7,6 @@ ghost use Rattle.fields.specs.Fields.{field_of};
 use image::tables;
 use image::tables::Table;
 
-fn wide(x: u32) -> u64
-    ensures { (result ≡ x) × (result < 4294967296) }
-{
-    x as u64
-}
-
 // The `width` bits of a number from bit `bottom` up.
 fn cut(n: u64, bottom: u64, width: u64) -> u64
     requires { (bottom < 32) × (width < 64) }
@@ -25,7 +19,7 @@ fn cut(n: u64, bottom: u64, width: u64) -> u64
 fn pair(low: u32, high: u32) -> u64
     ensures { result ≡ low + high * 4294967296 }
 {
-    wide(low) + wide(high) * 4294967296
+    u64::from(low) + u64::from(high) * 4294967296
 }
 
 // Bits top:bottom of entry i of a table; the field lies in one word or in two neighbours.
@@ -38,7 +32,8 @@ pub fn field(image: &[u32], table: Table, i: usize, top: usize, bottom: usize) -
     let shift = (bottom % 32) as u64;
     let width = (top - bottom + 1) as u64;
     if top / 32 == bottom / 32 {
-        return cut(wide(image[low]), shift, width);
+        cut(u64::from(image[low]), shift, width)
+    } else {
+        cut(pair(image[low], image[low + 1]), shift, width)
     }
-    cut(pair(image[low], image[low + 1]), shift, width)
 }

@@ -15,9 +15,10 @@ pub fn shared_learn(image: &[u32]) -> u64
     ensures { (result ≡ shared_learn (image_in image.now)) × (result < 2) }
 {
     if count(image, Table::LookupParameters) == 0 {
-        return 0;
+        0
+    } else {
+        field(image, Table::LookupParameters, 0, 5, 5)
     }
-    field(image, Table::LookupParameters, 0, 5, 5)
 }
 
 // PART_SPC(j), ten bits up from 13 + 10j

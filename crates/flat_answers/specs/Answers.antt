@@ -1,13 +1,11 @@
 -- A verdict and a tile as numbers: the kind, the refusal's or the drop's number, and the values; what a kind does not have is 0.
-use Rattle.std.specs.Prelude.{ℕ}
+use Rattle.std.specs.Prelude.{ℕ, Ok, Err}
 use Rattle.ports.specs.declared.Sending.{Sending}
 use Rattle.settle.specs.declared.Verdict.{Verdict}
 use Rattle.settle.specs.declared.Verdict.TheVariants.{Refused, Drop, Sent}
 use Rattle.tile.specs.declared.shares.Tile.{Tile}
 use Rattle.tile.specs.declared.shares.Tile.TheVariants.{NotLoaded, NoFrames, Shares}
-use Rattle.tile.specs.declared.shares.Asked.{Asked}
-use Rattle.tile.specs.declared.shares.Asked.TheVariants as asked
-use Rattle.tile.specs.Tiles.{bits_of}
+use Rattle.tile.specs.Tiles.{Asked, bits_of}
 use Rattle.flat_answers.specs.declared.FlatVerdict.{FlatVerdict}
 use Rattle.flat_answers.specs.declared.FlatTile.{FlatTile}
 
@@ -59,5 +57,5 @@ flat_shown NoFrames = shown 2 0 0 0
 flat_shown (Shares frames octets) = shown 3 0 (bits_of frames) (bits_of octets)
 
 abbrev pub flat_tile : Asked → FlatTile
-flat_tile (asked.Refused n) = shown 0 n 0 0
-flat_tile (asked.Shown t) = flat_shown t
+flat_tile (Err n) = shown 0 n 0 0
+flat_tile (Ok t) = flat_shown t

@@ -4,11 +4,10 @@
 
 ghost use Rattle.std.specs.Prelude.{◌≡◌};
 ghost use Rattle.ledger.specs.Answers.{number_of};
-ghost use Rattle.flat_answers.specs.Answers.{flat_verdict, flat_shown, flat_tile};
+ghost use Rattle.flat_answers.specs.Answers.{flat_verdict, flat_tile};
 
-use ledger::Answer;
 use settle::Verdict;
-use tile::shares::{Asked, Tile};
+use tile::shares::Tile;
 
 // `kind`: 0 refused and 1 dropped, with the `number`; 2 sent, with the values, which are 0 before.
 #[repr(C)]
@@ -37,12 +36,36 @@ pub struct FlatTile {
     pub octets: u64,
 }
 
-pub fn outcome_number(answer: Answer) -> u32
+// What a verdict that is not sent does not have.
+const UNSENT: FlatVerdict = FlatVerdict {
+    kind: 0,
+    number: 0,
+    ports: 0,
+    vlan: 0,
+    priority: 0,
+    tags: 0,
+    queue0: 0,
+    queue1: 0,
+    queue2: 0,
+    queue3: 0,
+    queue4: 0,
+};
+
+// What a tile without shares does not have.
+const NO_SHARES: FlatTile = FlatTile {
+    kind: 0,
+    number: 0,
+    share: 0,
+    octets: 0,
+};
+
+// The three conversions are functions and no `From`: docs/ENTRIES.md names them, and a `From` for `u32` cannot stand here.
+pub fn outcome_number(answer: Result<(), u32>) -> u32
     ensures { result ≡ number_of answer }
 {
     match answer {
-        Answer::Refused(n) => n,
-        Answer::Done => 0,
+        Err(n) => n,
+        Ok(()) => 0,
     }
 }
 
@@ -53,28 +76,12 @@ pub fn flat_verdict(verdict: Verdict) -> FlatVerdict
         Verdict::Refused(n) => FlatVerdict {
             kind: 0,
             number: n,
-            ports: 0,
-            vlan: 0,
-            priority: 0,
-            tags: 0,
-            queue0: 0,
-            queue1: 0,
-            queue2: 0,
-            queue3: 0,
-            queue4: 0,
+            ..UNSENT
         },
         Verdict::Drop(n) => FlatVerdict {
             kind: 1,
             number: n,
-            ports: 0,
-            vlan: 0,
-            priority: 0,
-            tags: 0,
-            queue0: 0,
-            queue1: 0,
-            queue2: 0,
-            queue3: 0,
-            queue4: 0,
+            ..UNSENT
         },
         Verdict::Sent(s) => FlatVerdict {
             kind: 2,
@@ -92,41 +99,28 @@ pub fn flat_verdict(verdict: Verdict) -> FlatVerdict
     }
 }
 
-fn flat_shown(tile: Tile) -> FlatTile
-    ensures { result ≡ flat_shown tile }
+pub fn flat_tile(asked: Result<Tile, u32>) -> FlatTile
+    ensures { result ≡ flat_tile asked }
 {
-    match tile {
-        Tile::NotLoaded => FlatTile {
+    match asked {
+        Err(n) => FlatTile {
+            kind: 0,
+            number: n,
+            ..NO_SHARES
+        },
+        Ok(Tile::NotLoaded) => FlatTile {
             kind: 1,
-            number: 0,
-            share: 0,
-            octets: 0,
+            ..NO_SHARES
         },
-        Tile::NoFrames => FlatTile {
+        Ok(Tile::NoFrames) => FlatTile {
             kind: 2,
-            number: 0,
-            share: 0,
-            octets: 0,
+            ..NO_SHARES
         },
-        Tile::Shares(frames, octets) => FlatTile {
+        Ok(Tile::Shares(frames, octets)) => FlatTile {
             kind: 3,
             number: 0,
             share: tile::shares::bits(frames),
             octets: tile::shares::bits(octets),
         },
-    }
-}
-
-pub fn flat_tile(asked: Asked) -> FlatTile
-    ensures { result ≡ flat_tile asked }
-{
-    match asked {
-        Asked::Refused(n) => FlatTile {
-            kind: 0,
-            number: n,
-            share: 0,
-            octets: 0,
-        },
-        Asked::Shown(tile) => flat_shown(tile),
     }
 }

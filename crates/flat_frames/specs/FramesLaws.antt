@@ -1,8 +1,7 @@
 -- Each call by the promise below it; that each promise permits one outcome; and that the numbers are what document 01 says.
-use Rattle.std.specs.Prelude.{◌≡◌, refl, List, ℕ, ◌≤◌}
+use Rattle.std.specs.Prelude.{◌≡◌, refl, List, ℕ, ◌≤◌, Ok, Err}
 use Rattle.std.proofs.Common.{sym, ◌∙◌, ap, subst}
-use Rattle.ledger.specs.declared.Answer.{Answer}
-use Rattle.ledger.specs.Answers.{number_of}
+use Rattle.ledger.specs.Answers.{Answer, number_of}
 use Rattle.ledger.specs.AnswersLaws.{numbered}
 use Rattle.ledger.specs.Range.{unloaded}
 use Rattle.row.specs.Fresh.{Freshened}
@@ -11,13 +10,11 @@ use Rattle.settle.specs.declared.Verdict.{Verdict}
 use Rattle.settle.specs.declared.Verdict.TheVariants as verdicts
 use Rattle.judge.specs.Judge as verdict
 use Rattle.tile.specs.declared.shares.Tile.TheVariants as shown
-use Rattle.tile.specs.declared.shares.Asked.TheVariants as askeds
 use Rattle.tile.specs.Tiles as asked
 use Rattle.judge.specs.declared.Judgement.{Judgement}
 use Rattle.judge.specs.Judge.{call_of, answer_of, Judges}
 use Rattle.judge.proofs.Proved as judge
-use Rattle.tile.specs.declared.shares.Asked.{Asked}
-use Rattle.tile.specs.Tiles.{Tiled}
+use Rattle.tile.specs.Tiles.{Asked, Tiled}
 use Rattle.flat_answers.specs.declared.FlatVerdict.{FlatVerdict}
 use Rattle.flat_answers.specs.declared.FlatTile.{FlatTile}
 use Rattle.flat_answers.specs.Answers.{flat_verdict, flat_tile}
@@ -76,7 +73,7 @@ verdict_says (verdicts.Drop n) = (refl, refl)
 verdict_says (verdicts.Sent s) = (refl, refl)
 
 pub tile_says : (a : Asked) → ((flat_tile a).kind ≡ (asked.said_of a).kind) × ((flat_tile a).number ≡ (asked.said_of a).number)
-tile_says (askeds.Refused n) = (refl, refl)
-tile_says (askeds.Shown shown.NotLoaded) = (refl, refl)
-tile_says (askeds.Shown shown.NoFrames) = (refl, refl)
-tile_says (askeds.Shown (shown.Shares x y)) = (refl, refl)
+tile_says (Err n) = (refl, refl)
+tile_says (Ok shown.NotLoaded) = (refl, refl)
+tile_says (Ok shown.NoFrames) = (refl, refl)
+tile_says (Ok (shown.Shares x y)) = (refl, refl)

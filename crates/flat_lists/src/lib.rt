@@ -23,56 +23,51 @@ pub struct FlatRecord {
     pub next: u64,
 }
 
-fn flat_record(stands: Record) -> FlatRecord
-    ensures { result ≡ flat_stands (told stands) }
-{
-    match stands {
-        Record::Frame {
-            port,
-            time,
-            start,
-            count,
-            next,
-        } => FlatRecord {
-            kind: 1,
-            number: 0,
-            time,
-            port: port as u64,
-            partition: 0,
-            start: start as u64,
-            count: count as u64,
-            next: next as u64,
-        },
-        Record::Release { partition, next } => FlatRecord {
-            kind: 2,
-            number: 0,
-            time: 0,
-            port: 0,
-            partition: partition as u64,
-            start: 0,
-            count: 0,
-            next: next as u64,
-        },
-        Record::End => FlatRecord {
-            kind: 3,
-            number: 0,
-            time: 0,
-            port: 0,
-            partition: 0,
-            start: 0,
-            count: 0,
-            next: 0,
-        },
-        Record::Refused(why) => FlatRecord {
-            kind: 0,
-            number: records::number_of(why) as u32,
-            time: 0,
-            port: 0,
-            partition: 0,
-            start: 0,
-            count: 0,
-            next: 0,
-        },
+// What a kind does not have.
+const NOTHING: FlatRecord = FlatRecord {
+    kind: 0,
+    number: 0,
+    time: 0,
+    port: 0,
+    partition: 0,
+    start: 0,
+    count: 0,
+    next: 0,
+};
+
+impl From<Record> for FlatRecord {
+    ghost from_gives = { λ stands flat. flat ≡ flat_stands (told stands) };
+
+    fn from(stands: Record) -> FlatRecord {
+        match stands {
+            Record::Frame {
+                port,
+                time,
+                start,
+                count,
+                next,
+            } => FlatRecord {
+                kind: 1,
+                time,
+                port: port as u64,
+                start: start as u64,
+                count: count as u64,
+                next: next as u64,
+                ..NOTHING
+            },
+            Record::Release { partition, next } => FlatRecord {
+                kind: 2,
+                partition: partition as u64,
+                next: next as u64,
+                ..NOTHING
+            },
+            Record::End => FlatRecord { kind: 3, ..NOTHING },
+            Record::Refused(why) => FlatRecord {
+                kind: 0,
+                number: records::number_of(why) as u32,
+                ..NOTHING
+            },
+        }
     }
 }
 
@@ -80,5 +75,5 @@ fn flat_record(stands: Record) -> FlatRecord
 pub fn record_at(list: &[u8], at: usize) -> FlatRecord
     ensures { RecordsFlat list.now at result }
 {
-    flat_record(records::record_at(list, at))
+    FlatRecord::from(records::record_at(list, at))
 }

@@ -1,13 +1,8 @@
 -- What each way through a write leaves, and that data of one block alone leave on the numbers what `wrote_flat` says.
-use mathlib.Core.Path.{◌≡◌, refl, sym, ◌∙◌, ap, ap₂, subst}
-use mathlib.Core.Bool.{Bool, true, false, cond, not}
-use mathlib.Core.List.{List, [], ◌∷◌}
-use Prim.Native.Nat.{ℕ, ◌+◌, ◌-◌, ◌<◌, ◌≤◌}
-use native.Mathlib.Omega.{arith}
-use lib.Dec.{leb, eqb}
-use lib.ListN.{length, get_or, drop}
-use lib.Seq.{sets}
-use borrow.Author.Tests.{ltb-false, leb-false, lt-ltb, eqb-true, not-false}
+use Rattle.std.proofs.Common.{◌≡◌, refl, sym, ◌∙◌, ap, ap₂, subst, Bool, true, false, cond, not, List, [], ◌∷◌, ℕ, ◌+◌, ◌-◌, ◌<◌, ◌≤◌, arith, leb, eqb, length, get_or, drop, ltb-false, leb-false, lt-ltb, eqb-true}
+use Rattle.std.specs.Prelude.{Option, Some, None}
+use Rattle.std.proofs.lemmas.List.Edits.{sets}
+use Rattle.std.proofs.lemmas.Bool.{not-false}
 use Rattle.laws.specs.Chain.{hit, pass}
 use Rattle.crc.specs.Crc.{words_in}
 use Rattle.crc_both.specs.declared.Both.{Both}
@@ -68,7 +63,7 @@ module _ (c buffer words : List ℕ) where
 -- ---- a place in the image: each test has failed
 
 -- the place of a block's data, by its table
-pub place_by : (buffer : List ℕ) (t : Table) (k placed due n r : ℕ) → r ≡ data_place buffer t placed due n → t ≡ table_of k
+pub place_by : (buffer : List ℕ) (t : Table) (k placed due n : ℕ) (r : Option ℕ) → r ≡ data_place buffer t placed due n → t ≡ table_of k
     → r ≡ data_place buffer (table_of k) placed due n
 place_by buffer t k placed due n r p e = p ∙ ap (λ (x : Table). data_place buffer x placed due n) e
 
@@ -77,19 +72,19 @@ record Passed (c buffer : List ℕ) (n r : ℕ) : Type 0 where
   in_block : low (get_or c 0 0) ≡ 4
   table : low (get_or c 1 0) < table_count
   own : (load_in c).table ≡ table_of (low (get_or c 1 0))
-  is : r ≡ data_place buffer (load_in c).table (load_in c).placed (load_in c).due n
+  is : Some r ≡ data_place buffer (load_in c).table (load_in c).placed (load_in c).due n
 
-all_failed : (x y z : Bool) (p : ℕ) → cond x image_words (cond y image_words (cond z image_words p)) < image_words
-    → (x ≡ false) × (y ≡ false) × (z ≡ false) × (cond x image_words (cond y image_words (cond z image_words p)) ≡ p)
-all_failed true y z p h = absurd (omega arith)
-all_failed false true z p h = absurd (omega arith)
-all_failed false false true p h = absurd (omega arith)
-all_failed false false false p h = (refl, refl, refl, refl)
+all_failed : (x y z : Bool) (p : Option ℕ) (r : ℕ) → Some r ≡ cond x None (cond y None (cond z None p))
+    → (x ≡ false) × (y ≡ false) × (z ≡ false) × (Some r ≡ p)
+all_failed true y z p r h = absurd (cc)
+all_failed false true z p r h = absurd (cc)
+all_failed false false true p r h = absurd (cc)
+all_failed false false false p r h = (refl, refl, refl, h)
 
-passed : (c buffer : List ℕ) (n r : ℕ) → r ≡ flat_place c buffer n → r < image_words → Passed c buffer n r
+passed : (c buffer : List ℕ) (n r : ℕ) → Some r ≡ flat_place c buffer n → Passed c buffer n r
 unfolding flat_place
-passed c buffer n r e h =
-    let q = all_failed (too_short buffer) (not (eqb (low (get_or c 0 0)) 4)) (leb table_count (low (get_or c 1 0))) _ (subst (λ (x : ℕ). x < image_words) e h) in
+passed c buffer n r e =
+    let q = all_failed (too_short buffer) (not (eqb (low (get_or c 0 0)) 4)) (leb table_count (low (get_or c 1 0))) _ r e in
     let here = eqb-true (low (get_or c 0 0)) 4 (not-false (eqb (low (get_or c 0 0)) 4) q.1) in
     let own : (load_in c).table ≡ table_of (low (get_or c 1 0)) = ap (λ (p : ℕ). table_in (phase_of p (high (get_or c 0 0))) (low (get_or c 1 0))) here in
     record {
@@ -97,7 +92,7 @@ passed c buffer n r e h =
       in_block = here;
       table = leb-false table_count (low (get_or c 1 0)) q.2;
       own = own;
-      is = e ∙ q.3 ∙ ap (λ (t : Table). data_place buffer t (get_or c 2 0) (get_or c 3 0) n) (sym own);
+      is = q.3 ∙ ap (λ (t : Table). data_place buffer t (get_or c 2 0) (get_or c 3 0) n) (sym own);
     }
 
 -- ---- what the write leaves
@@ -108,15 +103,15 @@ one_word [] h = absurd (omega arith)
 one_word (w ∷ []) h = refl
 one_word (w ∷ v ∷ words) h = absurd (omega arith)
 
-module _ (c buffer words : List ℕ) (place : ℕ) (e : place ≡ flat_place c buffer (length words)) (h : place < image_words) where
+module _ (c buffer words : List ℕ) (place : ℕ) (e : Some place ≡ flat_place c buffer (length words)) where
   passes : Passed c buffer (length words) place
-  passes = passed c buffer (length words) place e h
+  passes = passed c buffer (length words) place e
 
   whole : image_words ≤ length buffer
   whole = ltb-false (length buffer) image_words passes.whole
 
   by_data : DataWrite (load_in c) buffer words place
-  by_data = data_write (load_in c) buffer words place whole (ap (λ (n : ℕ). phase_of n (high (get_or c 0 0))) passes.in_block) passes.is h
+  by_data = data_write (load_in c) buffer words place whole (ap (λ (n : ℕ). phase_of n (high (get_or c 0 0))) passes.in_block) passes.is
 
   is_load_lem : is_load c ≡ true
   is_load_lem = ap (λ (n : ℕ). is_state n (high (get_or c 0 0)) (low (get_or c 1 0))) passes.in_block ∙ lt-ltb (low (get_or c 1 0)) table_count passes.table

@@ -14,10 +14,8 @@ use Rattle.image.specs.declared.tables.Table.{Table}
 use Rattle.rules.specs.Rules.{rules, first_of, ruled}
 use Rattle.rules.specs.NumbersLaws.{first_holds}
 use Rattle.stream.specs.Headers.{header_passes}
-use Rattle.stream.specs.Header.{device, id_of, length_of, header_of, wrong_passes}
+use Rattle.stream.specs.Header.{Header, Wrong, Right, device, id_of, length_of, header_of, wrong_passes}
 use Rattle.stream.specs.Machine.{Machine, at, idle, filling, told, had_in, begins, step_in, step, run, damaged, outside, untouched, written, opened, wrote}
-use Rattle.stream.specs.declared.Header.{Header}
-use Rattle.stream.specs.declared.Header.TheVariants.{Wrong, Right}
 use Rattle.stream.specs.declared.Phase.{Phase}
 use Rattle.stream.specs.declared.Phase.TheVariants.{Device, Id, Length, Sum, Data, Told}
 use Rattle.stream.specs.declared.Load.{Load}

@@ -11,19 +11,17 @@ use flat_states::{load_in, move_on, store, sums_of};
 use image::tables;
 use image::tables::TABLES;
 
-// Where a write's n words go, where they are data of one block alone and no test refuses them; else behind the image.
-fn place_of(image: &[u32], numbers: &[u64; 6], n: usize) -> usize
+// Where a write's n words go, where they are data of one block alone and no test refuses them.
+#[tactic(auto, using(crate::proofs::Laws::place_by), unfolding(crate::specs::Data::flat_place))]
+fn place_of(image: &[u32], numbers: &[u64; 6], n: usize) -> Option<usize>
     ensures { result ≡ flat_place numbers.now image.now n }
 {
-    if image::too_short(image) {
-        return image::IMAGE_WORDS;
-    }
-    if numbers[0] % HALF != 4 {
-        return image::IMAGE_WORDS;
+    if image::too_short(image) || numbers[0] % HALF != 4 {
+        return None;
     }
     let table = (numbers[1] % HALF) as usize;
     if TABLES <= table {
-        return image::IMAGE_WORDS;
+        return None;
     }
     one_block::data_place(
         image,
@@ -56,7 +54,7 @@ fn take_words(image: &mut [u32], numbers: &mut [u64; 6], place: usize, words: &[
     MORE
 }
 
-// Any write, by the load state that the numbers are.
+// Any write, by the load state that the numbers are. C is told its refusals by their numbers.
 fn write_any(image: &mut [u32], numbers: &mut [u64; 6], words: &[u32]) -> u32
     ensures { WritesFlat numbers.old image.old words.now result numbers.new image.new }
 {
@@ -78,14 +76,14 @@ fn write_any(image: &mut [u32], numbers: &mut [u64; 6], words: &[u32]) -> u32
 pub fn write(image: &mut [u32], load: &mut [u64; 6], words: &[u32]) -> u32
     ensures { WritesFlat load.old image.old words.now result load.new image.new }
 {
-    let place = place_of(image, load, words.len());
-    if place < image::IMAGE_WORDS {
-        if words.len() == 1 {
-            return take_word(image, load, place, words[0]);
-        }
-        return take_words(image, load, place, words);
+    let Some(place) = place_of(image, load, words.len()) else {
+        return write_any(image, load, words);
+    };
+    if let [w] = words {
+        take_word(image, load, place, *w)
+    } else {
+        take_words(image, load, place, words)
     }
-    write_any(image, load, words)
 }
 
 // A whole stream of words.

@@ -3,6 +3,8 @@
 // upper half of the second number is no part of the state.
 // The phase is 0 for word 0, which is also a load not yet begun; 1, 2, 3 for a block's two header words and their checksum; 4 for its data
 // and their checksum; 5 once an answer has been told, which is `told`. The table is its place in the rows; outside phase 4 nothing reads it.
+// C lends and is told these numbers, so they are no enums here: `tailbow_write` gives back what stands in them (`numbers_back`).
+// Functions and no `From`: docs/ENTRIES.md names them, a number alone is no phase, and `Phase` and `Answer` are of `stream`.
 #![tactic(auto)]
 
 ghost use Rattle.std.specs.Prelude.{◌≡◌, ◌<◌};
@@ -40,16 +42,10 @@ pub fn high(x: u64) -> u32
     (x / HALF) as u32
 }
 
-fn wide(x: u32) -> u64
-    ensures { (result ≡ x) × (result < 4294967296) }
-{
-    x as u64
-}
-
 pub fn joined(low: u32, high: u32) -> u64
     ensures { result ≡ joined low high }
 {
-    wide(low) + wide(high) * HALF
+    u64::from(low) + u64::from(high) * HALF
 }
 
 pub fn phase_number(phase: Phase) -> u32
@@ -70,12 +66,8 @@ pub fn told_in(spare: u32, phase: Phase) -> u32
     ensures { result ≡ told_in spare phase }
 {
     match phase {
-        Phase::Device => spare,
-        Phase::Id => spare,
-        Phase::Length => spare,
-        Phase::Sum => spare,
-        Phase::Data => spare,
         Phase::Told(n) => n,
+        _ => spare,
     }
 }
 
@@ -83,10 +75,7 @@ pub fn told_in(spare: u32, phase: Phase) -> u32
 pub fn kept(before: u32, spare: u32, phase: u32) -> u32
     ensures { result ≡ kept before spare phase }
 {
-    if before == phase {
-        return spare;
-    }
-    0
+    if before == phase { spare } else { 0 }
 }
 
 // The place of a block's table; outside a block, `spare`.
@@ -94,12 +83,8 @@ pub fn place_in(spare: u32, phase: Phase, table: Table) -> u32
     ensures { result ≡ place_in spare phase table }
 {
     match phase {
-        Phase::Device => spare,
-        Phase::Id => spare,
-        Phase::Length => spare,
-        Phase::Sum => spare,
         Phase::Data => tables::row_of(table).place as u32,
-        Phase::Told(_) => spare,
+        _ => spare,
     }
 }
 
@@ -107,17 +92,12 @@ pub fn place_in(spare: u32, phase: Phase, table: Table) -> u32
 pub fn is_load(numbers: &[u64; 6]) -> bool
     ensures { result ≡ is_load numbers.now }
 {
-    let phase = numbers[0] % HALF;
-    if 5 < phase {
-        return false;
+    match numbers[0] % HALF {
+        0..=3 => true,
+        4 => ((numbers[1] % HALF) as usize) < TABLES,
+        5 => high(numbers[0]) != MORE,
+        _ => false,
     }
-    if phase == 5 {
-        return high(numbers[0]) != MORE;
-    }
-    if phase == 4 {
-        return ((numbers[1] % HALF) as usize) < TABLES;
-    }
-    true
 }
 
 pub fn phase_of(number: u64, told: u32) -> Phase
@@ -137,5 +117,5 @@ pub fn phase_of(number: u64, told: u32) -> Phase
 pub fn fresh_load(load: &mut [u64; 6])
     ensures { FreshLoad load.new }
 {
-    *load = [0, 0, 0, 0, 0, 0];
+    *load = [0; 6];
 }

@@ -11,7 +11,7 @@ use image::tables;
 use image::tables::Table;
 use stream::{Load, Phase};
 
-// A load state in its numbers.
+// A load state in its numbers. Functions and no `From`, here and back: docs/ENTRIES.md names them, and the numbers that stood before are kept in part.
 pub fn store(numbers: &mut [u64; 6], load: Load)
     ensures { numbers.new ≡ stored_in numbers.old load }
 {
@@ -34,12 +34,8 @@ fn table_in(phase: Phase, place: usize) -> Table
     ensures { result ≡ table_in phase place }
 {
     match phase {
-        Phase::Device => Table::AddressLookup,
-        Phase::Id => Table::AddressLookup,
-        Phase::Length => Table::AddressLookup,
-        Phase::Sum => Table::AddressLookup,
         Phase::Data => tables::table_at(place),
-        Phase::Told(_) => Table::AddressLookup,
+        _ => Table::AddressLookup,
     }
 }
 

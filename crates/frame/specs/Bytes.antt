@@ -1,7 +1,6 @@
 -- What a frame's bytes say (IEEE 802.1Q for the tag; document 01, step 3).
-use Rattle.std.specs.Prelude.{Bool, cond, List, ℕ, ◌+◌, ◌*◌, ◌/◌, ◌%◌, eqb, length, get_or}
+use Rattle.std.specs.Prelude.{Bool, cond, Option, Some, None, List, ℕ, ◌+◌, ◌*◌, ◌/◌, ◌%◌, eqb, length, get_or}
 use Rattle.frame.specs.declared.Tag.{Tag}
-use Rattle.frame.specs.declared.Tag.TheVariants.{Untagged, Tagged}
 
 -- "L is its bytes plus 4"
 abbrev pub octets_of : List ℕ → ℕ
@@ -31,6 +30,10 @@ broadcasts mac = eqb mac 0xFFFFFFFFFFFF
 abbrev pub pair_at : List ℕ → ℕ → ℕ
 pair_at frame at = get_or frame at 0 * 256 + get_or frame (at + 1) 0
 
+-- a tag of its three values
+abbrev pub tag : ℕ → ℕ → ℕ → Tag
+tag at priority vlan = record { at = at; priority = priority; vlan = vlan }
+
 -- "tagged means bytes 12 and 13 are 81 00. The tag gives priority p and VLAN": three bits, one that is not read, and twelve
-unfoldable pub tag_of : List ℕ → Tag
-tag_of frame = cond (eqb (pair_at frame 12) 0x8100) (Tagged 12 (pair_at frame 14 / 8192 % 8) (pair_at frame 14 % 4096)) Untagged
+unfoldable pub tag_of : List ℕ → Option Tag
+tag_of frame = cond (eqb (pair_at frame 12) 0x8100) (Some (tag 12 (pair_at frame 14 / 8192 % 8) (pair_at frame 14 % 4096))) None

@@ -1,4 +1,5 @@
 // A frame's bytes: its addresses and its tag, and steps 1 to 3, which take it in.
+// That the image is sound and the port below 5 is asked in each contract, and no type has it: docs/ENTRIES.md names these functions, which take any such image and port.
 #![tactic(auto)]
 
 ghost use Rattle.std.specs.Prelude.{◌≡◌, ◌+◌, ◌*◌, ◌<◌, ◌≤◌, length};
@@ -6,6 +7,9 @@ ghost use Rattle.image.specs.Layout.{image_in};
 ghost use Rattle.image.specs.Sound.{Sound};
 ghost use Rattle.frame.specs.Bytes.{mac_at, pair_at, tag_of};
 ghost use Rattle.frame.specs.Intake.{vlan_or, untagged_of, by_tag, intake_of};
+ghost use Rattle.frame.specs.Answered.{intake_in};
+
+use drops::Dropped;
 
 // The one broadcast address.
 pub const BROADCAST: u64 = 0xFFFFFFFFFFFF;
@@ -18,26 +22,18 @@ const LEAST_BYTES: usize = 60;
 
 // A frame's tag, with the place of its first byte.
 #[derive(Clone, Copy)]
-pub enum Tag {
-    Untagged,
-    Tagged { at: usize, priority: u64, vlan: u64 },
+pub struct Tag {
+    pub at: usize,
+    pub priority: u64,
+    pub vlan: u64,
 }
 
-// Steps 1 to 3: dropped with the step's number, or taken in with its VLAN and priority.
+// A frame that steps 1 to 3 take in: its VLAN, its priority, and whether it has a tag.
 #[derive(Clone, Copy)]
-pub enum Intake {
-    Dropped(u32),
-    Taken {
-        vlan: u64,
-        priority: u64,
-        tagged: bool,
-    },
-}
-
-fn wide(x: u8) -> u64
-    ensures { (result ≡ x) × (result < 256) }
-{
-    x as u64
+pub struct Received {
+    pub vlan: u64,
+    pub priority: u64,
+    pub tagged: bool,
 }
 
 // The two bytes from `at` on.
@@ -45,7 +41,7 @@ fn pair_at(frame: &[u8], at: usize) -> u64
     requires { at + 2 ≤ length frame.now }
     ensures { (result ≡ pair_at frame.now at) × (result < 65536) }
 {
-    wide(frame[at]) * 256 + wide(frame[at + 1])
+    u64::from(u16::from_be_bytes([frame[at], frame[at + 1]]))
 }
 
 // The address in the six bytes from `at` on.
@@ -53,22 +49,32 @@ pub fn mac_at(frame: &[u8], at: usize) -> u64
     requires { at + 6 ≤ length frame.now }
     ensures { result ≡ mac_at frame.now at }
 {
-    pair_at(frame, at) * 0x100000000 + pair_at(frame, at + 2) * 0x10000 + pair_at(frame, at + 4)
+    u64::from_be_bytes([
+        0,
+        0,
+        frame[at],
+        frame[at + 1],
+        frame[at + 2],
+        frame[at + 3],
+        frame[at + 4],
+        frame[at + 5],
+    ])
 }
 
-fn tag_of(frame: &[u8]) -> Tag
+#[tactic(auto, unfolding(crate::specs::Bytes::tag_of))]
+fn tag_of(frame: &[u8]) -> Option<Tag>
     requires { 60 ≤ length frame.now }
     ensures { result ≡ tag_of frame.now }
 {
-    if pair_at(frame, 12) == TAGGED {
-        let control = pair_at(frame, 14);
-        return Tag::Tagged {
-            at: 12,
-            priority: control / 8192 % 8,
-            vlan: control % 4096,
-        };
+    if pair_at(frame, 12) != TAGGED {
+        return None;
     }
-    Tag::Untagged
+    let control = pair_at(frame, 14);
+    Some(Tag {
+        at: 12,
+        priority: control / 8192 % 8,
+        vlan: control % 4096,
+    })
 }
 
 // A tag's VLAN, or the port's where the tag has VLAN 0.
@@ -78,58 +84,56 @@ fn vlan_or(image: &[u32], port: usize, vlan: u64) -> u64
     ensures { result ≡ vlan_or (image_in image.now) port vlan }
 {
     if vlan == 0 {
-        return fields::mac::vlanid(image, port);
+        fields::mac::vlanid(image, port)
+    } else {
+        vlan
     }
-    vlan
 }
 
 // Step 3 of an untagged frame.
-fn untagged(image: &[u32], port: usize) -> Intake
+fn untagged(image: &[u32], port: usize) -> Result<Received, Dropped>
     requires sound { Sound image.now }
     requires port_bound { port < 5 }
-    ensures { result ≡ untagged_of (image_in image.now) port }
+    ensures { intake_in result ≡ untagged_of (image_in image.now) port }
 {
     if fields::mac::drpuntag(image, port) != 0 {
-        return Intake::Dropped(3);
+        return Err(Dropped::Untagged);
     }
-    Intake::Taken {
+    Ok(Received {
         vlan: fields::mac::vlanid(image, port),
         priority: fields::mac::vlanprio(image, port),
         tagged: false,
-    }
+    })
 }
 
 // Step 3.
-fn by_tag(image: &[u32], port: usize, tag: Tag) -> Intake
+fn by_tag(image: &[u32], port: usize, tag: Option<Tag>) -> Result<Received, Dropped>
     requires sound { Sound image.now }
     requires port_bound { port < 5 }
-    ensures { result ≡ by_tag (image_in image.now) port tag }
+    ensures { intake_in result ≡ by_tag (image_in image.now) port tag }
 {
     match tag {
-        Tag::Untagged => untagged(image, port),
-        Tag::Tagged {
-            at: _,
-            priority,
-            vlan,
-        } => Intake::Taken {
-            vlan: vlan_or(image, port, vlan),
-            priority,
+        None => untagged(image, port),
+        Some(tag) => Ok(Received {
+            vlan: vlan_or(image, port, tag.vlan),
+            priority: tag.priority,
             tagged: true,
-        },
+        }),
     }
 }
 
-// Steps 1 to 3.
-pub fn take_in(image: &[u32], port: usize, frame: &[u8]) -> Intake
+// Steps 1 to 3: the first drop that applies, or the frame taken in.
+#[tactic(auto, unfolding(crate::specs::Intake::intake_of))]
+pub fn take_in(image: &[u32], port: usize, frame: &[u8]) -> Result<Received, Dropped>
     requires sound { Sound image.now }
     requires port_bound { port < 5 }
-    ensures { result ≡ intake_of (image_in image.now) port frame.now }
+    ensures { intake_in result ≡ intake_of (image_in image.now) port frame.now }
 {
     if frame.len() < LEAST_BYTES {
-        return Intake::Dropped(1);
+        return Err(Dropped::TooShort);
     }
     if fields::mac::ingress(image, port) == 0 {
-        return Intake::Dropped(2);
+        return Err(Dropped::NoIngress);
     }
     by_tag(image, port, tag_of(frame))
 }

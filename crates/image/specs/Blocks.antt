@@ -1,8 +1,13 @@
 -- What a block ID names, from the rows and the manual's table 2 alone.
-use Rattle.std.specs.Prelude.{Bool, false, cond, ◌||◌, List, [], ◌∷◌, ℕ, eqb}
+use Rattle.std.specs.Prelude.{Bool, false, cond, ◌||◌, List, [], ◌∷◌, ℕ, eqb, Result, Ok, Err}
 use Rattle.image.specs.Rows.{Row, rows}
-use Rattle.image.specs.declared.tables.Block.{Block}
-use Rattle.image.specs.declared.tables.Block.TheVariants.{Carried, NotCarried, Unknown}
+use Rattle.image.specs.declared.tables.Table.{Table}
+use Rattle.image.specs.declared.tables.NoTable.{NoTable}
+use Rattle.image.specs.declared.tables.NoTable.TheVariants.{NotCarried, Unknown}
+
+-- what a block ID names: a table that is carried, another table of table 2, or nothing there
+abbrev pub Block : Type 0
+Block = Result Table NoTable
 
 -- the twenty block IDs of the manual's table 2
 abbrev pub table2 : List ℕ
@@ -36,8 +41,8 @@ listed id (x ∷ xs) = eqb id x || listed id xs
 
 -- the table of the first of some rows with this ID; where none has it, another ID of table 2, or none of its
 abbrev pub block_in : ℕ → List Row → Block
-block_in id [] = cond (listed id table2) NotCarried Unknown
-block_in id (r ∷ rs) = cond (eqb id r.id) (Carried r.table) (block_in id rs)
+block_in id [] = cond (listed id table2) (Err NotCarried) (Err Unknown)
+block_in id (r ∷ rs) = cond (eqb id r.id) (Ok r.table) (block_in id rs)
 
 -- what the ID names
 unfoldable pub block_of : ℕ → Block

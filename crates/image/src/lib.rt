@@ -1,5 +1,7 @@
 // The image in a lent buffer: its counts and its mark behind the entries, how they are read and written, and the test behind refusal 31.
 // No other crate knows where anything stands in it.
+// Room for an image (`image_words ≤ length`) is asked in each contract, here and in the crates above, and no type has it: docs/ENTRIES.md names these functions,
+// which take any buffer that is long enough.
 #![tactic(auto)]
 
 pub mod tables;
@@ -17,18 +19,12 @@ const MARK: usize = COUNTS + TABLES;
 
 pub const IMAGE_WORDS: usize = COUNTS + 26;
 
-fn as_count(x: u32) -> usize
-    ensures { (result ≡ x) × (result < 4294967296) }
-{
-    x as usize
-}
-
 // Word j of the image.
 fn word(image: &[u32], j: usize) -> usize
     requires { (image_words ≤ length image.now) × (j < image_words) }
     ensures { (result ≡ get_or (image_in image.now) j 0) × (result < 4294967296) }
 {
-    as_count(image[j])
+    image[j] as usize
 }
 
 // How many entries of a table the image holds.
@@ -52,11 +48,7 @@ pub fn clear(image: &mut [u32])
     requires { image_words ≤ length image.old }
     ensures { image.new ≡ cleared image.old }
 {
-    let mut i: usize = 0;
-    while i < IMAGE_WORDS {
-        image[i] = 0;
-        i += 1;
-    }
+    image[..IMAGE_WORDS].fill(0);
 }
 
 pub fn set_count(image: &mut [u32], table: Table, n: u32)

@@ -6,7 +6,7 @@ ghost use Rattle.image.specs.Layout.{entry_words};
 ghost use Rattle.image.specs.Placed.{RowOf};
 
 // The tables that are carried, in the rows' order.
-#[derive(Clone, Copy)]
+#[derive(Clone, Copy, PartialEq, Eq, Debug)]
 pub enum Table {
     AddressLookup,
     Policing,
@@ -23,40 +23,36 @@ pub enum Table {
 // How many there are.
 pub const TABLES: usize = 10;
 
-// What a block ID names: a table that is carried, another table of the manual's table 2, or nothing there.
-#[derive(Clone, Copy)]
-pub enum Block {
-    Carried(Table),
+// Why a block ID names no table that is carried: it names another table of the manual's table 2, or nothing there.
+#[derive(Clone, Copy, PartialEq, Eq, Debug)]
+pub enum NoTable {
     NotCarried,
     Unknown,
 }
 
-pub fn block_of(id: u32) -> Block
+// The table that a block ID names: a function and no TryFrom, since an ID is below 256.
+#[tactic(auto, using(crate::specs::BlocksLaws::is_listed, crate::specs::BlocksLaws::not_listed), unfolding(crate::specs::Blocks::block_of))]
+pub fn block_of(id: u32) -> Result<Table, NoTable>
     requires { id < 256 }
     ensures { result ≡ block_of id }
 {
     match id {
-        0x05 => Block::Carried(Table::AddressLookup),
-        0x06 => Block::Carried(Table::Policing),
-        0x07 => Block::Carried(Table::VlanLookup),
-        0x08 => Block::Carried(Table::Forwarding),
-        0x09 => Block::Carried(Table::MacConfiguration),
-        0x0D => Block::Carried(Table::LookupParameters),
-        0x0E => Block::Carried(Table::ForwardingParameters),
-        0x11 => Block::Carried(Table::GeneralParameters),
-        0x4E => Block::Carried(Table::XmiiModeParameters),
-        0x12 => Block::Carried(Table::Retagging),
-        _ => {
-            if id <= 0x12 {
-                Block::NotCarried
-            } else {
-                Block::Unknown
-            }
-        }
+        0x05 => Ok(Table::AddressLookup),
+        0x06 => Ok(Table::Policing),
+        0x07 => Ok(Table::VlanLookup),
+        0x08 => Ok(Table::Forwarding),
+        0x09 => Ok(Table::MacConfiguration),
+        0x0D => Ok(Table::LookupParameters),
+        0x0E => Ok(Table::ForwardingParameters),
+        0x11 => Ok(Table::GeneralParameters),
+        0x4E => Ok(Table::XmiiModeParameters),
+        0x12 => Ok(Table::Retagging),
+        0..=0x12 => Err(NoTable::NotCarried),
+        _ => Err(NoTable::Unknown),
     }
 }
 
-// The table of a place in the rows. A place that no row has is never asked for.
+// The table of a place in the rows. It can't fail, so it is no Option: a place that no row has is never asked for, and gets the first table.
 pub fn table_at(place: usize) -> Table
     ensures { result ≡ (row_at place).table }
 {
@@ -84,6 +80,7 @@ pub struct Row {
     pub most: usize,
 }
 
+// One row a line: a literal with its four names would take six.
 fn row_with(place: usize, start: usize, size: usize, most: usize) -> Row
     ensures { (result.place ≡ place) × (result.start ≡ start) × (result.size ≡ size) × (result.most ≡ most) }
 {

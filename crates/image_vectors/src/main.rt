@@ -14,7 +14,6 @@ use image::{IMAGE_WORDS, count, tables};
 use input::fill;
 use std::io;
 use std::io::Write;
-use stream::bytes::word_at;
 use stream::{Phase, states};
 
 fn print_address<W: Write>(out: &mut W, image: &[u32], i: usize) -> io::Result<()>
@@ -125,7 +124,7 @@ fn print_entry<W: Write>(out: &mut W, image: &[u32], table: Table, i: usize) -> 
 fn print_absent<W: Write>(out: &mut W, image: &[u32], table: Table) -> io::Result<()>
     requires { Bounded image.now }
 {
-    if let Table::LookupParameters = table {
+    if table == Table::LookupParameters {
         let shared_learn = parameters::shared_learn(image);
         writeln!(out, "0D absent {shared_learn}")?;
     }
@@ -162,11 +161,9 @@ fn print_before<W: Write>(
 {
     match phase {
         Phase::Device => writeln!(out, "device {word:08x}")?,
-        Phase::Sum => {
-            if second % 16777216 == 0 {
-                print_image(out, image)?;
-                return Ok(true);
-            }
+        Phase::Sum if second % 16777216 == 0 => {
+            print_image(out, image)?;
+            return Ok(true);
         }
         _ => {}
     }
@@ -174,13 +171,15 @@ fn print_before<W: Write>(
 }
 
 fn main(rt: HostRuntime) -> io::Result<()> {
+    // A fixed buffer: no memory is asked for here.
     let mut bytes = [0u8; 65536];
     let n = fill(&mut rt.reader(), &mut bytes).count;
     let mut out = io::writer(&rt);
     let mut image = [0u32; IMAGE_WORDS];
     let mut load = states::fresh();
-    for i in 0..n / 4 {
-        let word = word_at(&bytes, 4 * i);
+    let (fours, _) = bytes[..n].as_chunks::<4>();
+    for four in fours {
+        let word = u32::from_be_bytes(*four);
         if print_before(&mut out, &image, load.phase, load.second, word)? {
             image = [0u32; IMAGE_WORDS];
             load = states::fresh();

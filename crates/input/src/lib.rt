@@ -5,7 +5,8 @@ ghost use Rattle.std.specs.Prelude.{◌≡◌, ◌≤◌, length, take};
 
 use std::io::Read;
 
-// How many bytes were read, and whether a read failed.
+// How many bytes were read, and whether a read failed. A count and a flag: every caller takes the count in both cases, so that a `Result` would only be taken
+// apart and put together again.
 #[derive(Clone, Copy)]
 pub struct Filled {
     pub count: usize,

@@ -9,9 +9,8 @@ use Rattle.image.specs.Sound.{Sound}
 use Rattle.ledger.specs.Range.{standing}
 use Rattle.ledger.specs.Proved.{same_standing}
 use Rattle.frame.specs.Bytes.{octets_of}
-use Rattle.plan.specs.declared.enter.Entered.{Entered}
-use Rattle.plan.specs.declared.enter.Entered.TheVariants as entered
-use Rattle.plan.specs.Enter.{enter_of}
+use Rattle.plan.specs.Enter.{Entered, enter_of}
+use Rattle.plan.specs.Enter as entered
 use Rattle.settle.specs.declared.Verdict.TheVariants.{Refused}
 use Rattle.settle.specs.Settle.{Judged, judged, carried_out}
 use Rattle.replica.specs.Replica.{names, replicas, replicas_of}

@@ -8,10 +8,10 @@ use Rattle.std.proofs.Math.Dec.{eqb}
 use Rattle.std.proofs.lemmas.Bool.{eqb-false}
 use Rattle.image.specs.Layout.{image_in}
 use Rattle.frame.specs.Bytes.{octets_of}
-use Rattle.plan.specs.declared.enter.Entered.TheVariants as entered
+use Rattle.plan.specs.Enter as entered
 use Rattle.plan.specs.Enter.{enter_of}
 use Rattle.plan.specs.declared.Course.{Course}
-use Rattle.plan.specs.declared.Planned.TheVariants.{Dropped, Goes}
+use Rattle.plan.specs.Plan.{Dropped, Goes}
 use Rattle.plan.specs.Sane.{Sane}
 use Rattle.settle.specs.declared.Verdict.{Verdict}
 use Rattle.settle.specs.declared.Verdict.TheVariants.{Refused, Drop, Sent}

@@ -4,12 +4,9 @@ use Rattle.std.specs.Prelude.{◌≡◌, cond, List, [], ◌∷◌, ℕ, eqb, le
 use Rattle.laws.specs.Says.{Says, says}
 use Rattle.image.specs.Layout.{image_in}
 use Rattle.frame.specs.Bytes.{octets_of}
-use Rattle.plan.specs.declared.enter.Entered.{Entered}
-use Rattle.plan.specs.declared.enter.Entered.TheVariants as entered
-use Rattle.plan.specs.Enter.{enter_of}
-use Rattle.plan.specs.declared.Planned.{Planned}
-use Rattle.plan.specs.declared.Planned.TheVariants.{Dropped}
-use Rattle.plan.specs.Plan.{plan_of}
+use Rattle.plan.specs.Enter.{Entered, enter_of}
+use Rattle.plan.specs.Enter as entered
+use Rattle.plan.specs.Plan.{Planned, Dropped, plan_of}
 use Rattle.settle.specs.declared.Verdict.{Verdict}
 use Rattle.settle.specs.declared.Verdict.TheVariants.{Refused, Drop, Sent}
 use Rattle.settle.specs.Settle.{Judged, judged, carried_out}

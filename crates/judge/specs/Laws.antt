@@ -1,7 +1,8 @@
 -- That a frame which is not refused has it, its plan, and its promise.
-use Rattle.std.specs.Prelude.{◌≡◌, refl, Bool, true, false, cond, List, ℕ, ◌<◌, ◌≤◌, ltb, leb, eqb, length}
-use Rattle.std.proofs.Common.{sym, ◌∙◌, ap, arith, ltb-false, leb-false, eqb-true}
+use Rattle.std.specs.Prelude.{◌≡◌, refl, Bool, true, false, cond, Option, Result, Ok, Err, IfSome, List, ℕ, ◌<◌, ◌≤◌, ltb, leb, eqb, length}
+use Rattle.std.proofs.Common.{sym, ◌∙◌, ap, subst, arith, ltb-false, leb-false, eqb-true}
 use Rattle.std.proofs.lemmas.Bool.{eqb-false}
+use Rattle.std.specs.Result.{result_ok}
 use Rattle.laws.specs.Chain.{none_first, none_rest, zero_first, zero_rest, at_zero, not_zero}
 use Rattle.image.specs.Layout.{image_in}
 use Rattle.image.specs.Sound.{Sound}
@@ -10,14 +11,16 @@ use Rattle.ledger.specs.Range.{latest, standing}
 use Rattle.ledger.specs.Stands.{Stands}
 use Rattle.ledger.proofs.Laws.{stands}
 use Rattle.frame.specs.Bytes.{octets_of, destination_of}
-use Rattle.plan.specs.declared.enter.Entered.{Entered}
-use Rattle.plan.specs.declared.enter.Entered.TheVariants as entered
-use Rattle.plan.specs.Enter.{enter_of}
-use Rattle.plan.specs.declared.Policed.{Policed}
-use Rattle.plan.specs.Police.{policed_of}
-use Rattle.plan.specs.Plan.{by_policer, plan_of}
-use Rattle.plan.specs.declared.Planned.{Planned}
-use Rattle.plan.specs.declared.Planned.TheVariants.{Dropped}
+use Rattle.plan.specs.Enter.{Entered, enter_of}
+use Rattle.plan.specs.Enter as entered
+use Rattle.drops.specs.declared.Dropped as drops
+use Rattle.plan.specs.declared.enter.Entrant.{Entrant}
+use Rattle.plan.specs.declared.Arrival.{Arrival}
+use Rattle.plan.specs.Arrival.{arrival_of}
+use Rattle.plan.specs.Answered.{entered_in}
+use Rattle.plan.specs.LetIn.{LetIn, Through}
+use Rattle.plan.specs.Police.{Policed, policed_of}
+use Rattle.plan.specs.Plan.{by_policer, plan_of, Planned, Dropped}
 use Rattle.plan.specs.Sane.{Follows}
 use Rattle.plan.proofs.Laws.{follows}
 use Rattle.settle.specs.declared.Verdict.{Verdict}
@@ -28,8 +31,8 @@ use Rattle.settle.specs.Runs.{RunsAll}
 use Rattle.settle.specs.RunsLaws.{plan_runs}
 use Rattle.settle.specs.Laws.{carries_as, drop_carries}
 use Rattle.places.specs.Places.{laid_over}
-use Rattle.replica.specs.Replica.{replicas_of, Replicates}
-use Rattle.replica.proofs.ReplicaLaws.{none_of}
+use Rattle.replica.specs.Replica.{Replicas, replicas_of, replicas_for, Replicates}
+use Rattle.replica.proofs.ReplicaLaws.{none_of, for_entered}
 use Rattle.judge.specs.declared.Judgement.{Judgement}
 use Rattle.judge.specs.Refusal.{mistimed, unjudged, refusal_of}
 use Rattle.judge.specs.Judge.{said_of, by_entry, plan_for, noted_of, judge_of, entered_of, Called, called, call_of, answer_of, Judges}
@@ -92,19 +95,12 @@ pub is_dropped : (image g : List ℕ) (port time octets : ℕ) (frame : List ℕ
 is_dropped image g port time octets frame q n e =
     carries_as g time octets (by_entry image port frame q) (Dropped n) (Drop n) g (ap (by_entry image port frame) e) (drop_carries g time octets n)
 
-pub is_let_in : (image g : List ℕ) (port time octets : ℕ) (frame : List ℕ) (q : Entered) (vlan place priority destination : ℕ) (r : Verdict) (after : List ℕ)
+pub is_let_in : (image g : List ℕ) (port time octets : ℕ) (frame : List ℕ) (q : Entered) (vlan place priority : ℕ) (r : Verdict) (after : List ℕ)
     → q ≡ entered.In vlan place priority
-    → destination ≡ destination_of frame
-    → octets ≡ octets_of frame
-    → Carries g time octets (by_policer image port destination vlan place priority (policed_of image port priority destination octets)) r after
+    → Carries g time octets (plan_of image port frame vlan place priority) r after
     → Carries g time octets (by_entry image port frame q) r after
-unfolding plan_of
-is_let_in image g port time octets frame q vlan place priority destination r after e d l =
-    carries_as g time octets (by_entry image port frame q) (by_policer image port destination vlan place priority (policed_of image port priority destination octets)) r after
-    (ap (by_entry image port frame) e
-    ∙ sym
-    (ap (λ (x : ℕ). by_policer image port x vlan place priority (policed_of image port priority x octets)) d
-    ∙ ap (λ (x : ℕ). by_policer image port (destination_of frame) vlan place priority (policed_of image port priority (destination_of frame) x)) l))
+is_let_in image g port time octets frame q vlan place priority r after e c =
+    carries_as g time octets (by_entry image port frame q) (plan_of image port frame vlan place priority) r after (ap (by_entry image port frame) e) c
 
 -- by what 7 and 8 answered, k
 pub is_policed : (image g : List ℕ) (port time octets destination vlan place priority : ℕ) (q k : Policed) (r : Verdict) (after : List ℕ)
@@ -115,6 +111,28 @@ pub is_policed : (image g : List ℕ) (port time octets destination vlan place p
 is_policed image g port time octets destination vlan place priority q k r after e h =
     carries_as g time octets (by_policer image port destination vlan place priority (policed_of image port priority destination octets))
     (by_policer image port destination vlan place priority k) r after (ap (by_policer image port destination vlan place priority) (sym e ∙ h))
+
+-- by how the frame came, a, and what 7 and 8 answered, k
+pub policed_is : (image g : List ℕ) (port time : ℕ) (frame : List ℕ) (vlan place priority : ℕ) (a : Arrival) (q k : Policed) (r : Verdict) (after : List ℕ)
+    → a ≡ arrival_of port time frame
+    → q ≡ policed_of image a.port priority a.destination a.octets
+    → q ≡ k
+    → Carries g a.time a.octets (by_policer image a.port a.destination vlan place priority k) r after
+    → Carries g time (octets_of frame) (plan_of image port frame vlan place priority) r after
+unfolding plan_of
+policed_is image g port time frame vlan place priority a q k r after e p h c =
+    let police = subst (λ (x : Arrival). q ≡ policed_of image x.port priority x.destination x.octets) e p in
+    carries_as g time (octets_of frame) _ _ r after (ap (by_policer image port (destination_of frame) vlan place priority) (sym police ∙ h))
+    (subst (λ (x : Arrival). Carries g x.time x.octets (by_policer image x.port x.destination vlan place priority k) r after) e c)
+
+-- what a frame that was let in has
+pub some_let_in : (image frame : List ℕ) (e : Result Entrant drops.Dropped) (o : Option Entrant) → o ≡ result_ok e → Through image frame (entered_in e)
+    → IfSome o (λ x. LetIn image frame x.place x.priority)
+some_let_in image frame e o is t = subst (λ (y : Option Entrant). IfSome y (λ x. LetIn image frame x.place x.priority)) (sym is) (go e t)
+  where
+    go : (e : Result Entrant drops.Dropped) → Through image frame (entered_in e) → IfSome (result_ok e) (λ x. LetIn image frame x.place x.priority)
+    go (Ok x) t = t
+    go (Err d) t = tt
 
 -- ---- the promise
 
@@ -168,6 +186,24 @@ is_judged buffer g port time frame places n q r mid left d m after told e z i x 
     ∙ ap (λ (j : Planned). noted_of port time (octets_of frame) (carried_out g time (octets_of frame) j)) (ap (by_entry (image_in buffer) port frame) i)))
     (at_zero n _ _ _ _ e z i)
     t
+
+-- by the code's answers
+pub is_judged_as : (buffer g : List ℕ) (port time : ℕ) (frame places : List ℕ) (n : ℕ) (e : Result Entrant drops.Dropped) (o : Option Entrant) (r v : Verdict) (mid left : List ℕ) (d : Bool) (m : ℕ) (after told : List ℕ)
+    → n ≡ refusal_of buffer g port time frame
+    → n ≡ 0
+    → entered_in e ≡ enter_of (image_in buffer) port frame
+    → v ≡ r
+    → Carries g time (octets_of frame) (by_entry (image_in buffer) port frame (entered_in e)) r mid
+    → d ≡ is_drop v
+    → left ≡ noted mid port time (octets_of frame) d
+    → o ≡ result_ok e
+    → Replicates (replicas_for (image_in buffer) left port time frame o) places m after told
+    → Judges buffer g port time frame places (record { verdict = v; replicas = m }) after told
+is_judged_as buffer g port time frame places n e o r v mid left d m after told ref z i is x f h some t =
+    is_judged buffer g port time frame places n (entered_in e) v mid left d m after told ref z i
+    (subst (λ (y : Verdict). Carries g time (octets_of frame) (by_entry (image_in buffer) port frame (entered_in e)) y mid) (sym is) x) f h
+    (subst (λ (y : Replicas). Replicates y places m after told)
+    (ap (replicas_for (image_in buffer) left port time frame) some ∙ for_entered (image_in buffer) left port time frame e) t)
 
 -- the promise permits one outcome
 pub one_judgement : (buffer g : List ℕ) (port time : ℕ) (frame places : List ℕ) (r s : Judgement) (a b t u : List ℕ) → Judges buffer g port time frame places r a t

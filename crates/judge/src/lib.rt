@@ -2,24 +2,26 @@
 // replica's verdict is told in a lent place.
 #![tactic(auto)]
 
-ghost use Rattle.std.specs.Prelude.{◌≡◌, ◌<◌};
-ghost use Rattle.image.specs.Layout.{image_in, count_of};
+ghost use Rattle.std.specs.Prelude.{◌≡◌, ◌<◌, ◌≤◌, length};
+ghost use Rattle.image.specs.Layout.{image_in};
 ghost use Rattle.image.specs.Sound.{Sound};
+ghost use Rattle.ledger.specs.Refusals.{refused_by};
 ghost use Rattle.judge.specs.Refusal.{mistimed, unjudged, refusal_of};
 ghost use Rattle.frame.specs.Bytes.{octets_of};
-ghost use Rattle.image.specs.declared.tables.Table.TheVariants.{VlanLookup};
+ghost use Rattle.plan.specs.Answered.{entered_in};
 ghost use Rattle.plan.specs.LetIn.{Through};
-ghost use Rattle.plan.specs.Police.{policed_of};
-ghost use Rattle.plan.specs.Plan.{by_policer};
 ghost use Rattle.settle.specs.Settle.{Carries};
+ghost use Rattle.settle.specs.Answered.{verdict_in};
 ghost use Rattle.judge.specs.Judge.{by_entry, Judges};
 
-use frame::mac_at;
+use drops::Dropped;
 use ledger::range::{LATEST, standing};
+use ledger::refusal::Refusal;
 use ledger::{CELLS, FRAMES, LAST};
 use places::PLACES;
-use plan::enter::{Entered, enter};
-use plan::{Policed, police};
+use plan::enter::{Entrant, enter};
+use plan::{Arrival, police};
+use ports::Sending;
 use replica::replicate;
 use settle::note::{is_drop, note};
 use settle::{Verdict, carry_on};
@@ -33,39 +35,39 @@ const MOST_FRAMES: u64 = 4294967295;
 fn mistimed(last: u64, time: u64) -> bool
     ensures { result ≡ mistimed last time }
 {
-    if time < last {
-        return true;
-    }
-    LATEST < time
+    time < last || LATEST < time
 }
 
-// 33, 34, 35, 38; 0 where none refuses.
-fn unjudged(row: &[u64; CELLS], port: usize, time: u64, frame: &[u8]) -> u32
-    ensures { result ≡ unjudged row.now port time frame.now }
+// 33, 34, 35, 38.
+fn unjudged(row: &[u64; CELLS], port: usize, time: u64, frame: &[u8]) -> Result<(), Refusal>
+    ensures { refused_by result ≡ unjudged row.now port time frame.now }
 {
     if 4 < port {
-        return 33;
+        return Err(Refusal::NoSuchPort);
     }
     if mistimed(row[LAST], time) {
-        return 34;
+        return Err(Refusal::Mistimed);
     }
     if MOST_BYTES < frame.len() {
-        return 35;
+        return Err(Refusal::FrameTooLong);
     }
     if MOST_FRAMES <= row[FRAMES + port] {
-        return 38;
+        return Err(Refusal::TooManyFrames);
     }
-    0
+    Ok(())
 }
 
-// What refuses a frame; 0 where nothing does.
-fn refusal(image: &[u32], row: &[u64; CELLS], port: usize, time: u64, frame: &[u8]) -> u32
-    ensures { result ≡ refusal_of image.now row.now port time frame.now }
+// What refuses a frame.
+fn refusal(
+    image: &[u32],
+    row: &[u64; CELLS],
+    port: usize,
+    time: u64,
+    frame: &[u8],
+) -> Result<(), Refusal>
+    ensures { refused_by result ≡ refusal_of image.now row.now port time frame.now }
 {
-    let refused = standing(image, row);
-    if refused != 0 {
-        return refused;
-    }
+    standing(image, row)?;
     unjudged(row, port, time, frame)
 }
 
@@ -76,78 +78,25 @@ pub struct Judgement {
     pub replicas: usize,
 }
 
-// Steps 7 to 11 of a frame that is let in.
-fn let_in(
-    image: &[u32],
-    row: &mut [u64; CELLS],
-    port: usize,
-    time: u64,
-    octets: u64,
-    destination: u64,
-    vlan: u64,
-    place: usize,
-    priority: u64,
-) -> Verdict
-    requires sound { Sound image.now }
-    requires port_bound { (port < 5) × (place < count_of (image_in image.now) VlanLookup) × (priority < 8) × (octets < 65536) }
-    ensures { Carries row.old time octets (by_policer (image_in image.now) port destination vlan place priority (policed_of (image_in image.now) port priority destination octets)) result row.new }
-{
-    let policed = police(image, port, priority, destination, octets);
-    match policed {
-        Policed::Unmetered => Verdict::Drop(7),
-        Policed::TooLong => Verdict::Drop(8),
-        Policed::By { policer, meter } => carry_on(
-            image,
-            row,
-            port,
-            time,
-            octets,
-            destination,
-            vlan,
-            place,
-            priority,
-            policer,
-            meter,
-        ),
-    }
-}
-
-// The frame by itself, by what steps 1 to 6 answered.
+// The frame by itself, by what steps 1 to 6 answered. Port, time and frame come one by one, as to `judge`: an `Arrival` is of sixty bytes at least, which a
+// frame that is dropped may not have.
 fn own(
     image: &[u32],
     row: &mut [u64; CELLS],
     port: usize,
     time: u64,
-    octets: u64,
     frame: &[u8],
-    entered: Entered,
-) -> Verdict
+    entered: Result<Entrant, Dropped>,
+) -> Result<Sending, Dropped>
     requires sound { Sound image.now }
-    requires port_bound { (port < 5) × (octets ≡ octets_of frame.now) × (octets < 65536) }
-    requires through { Through (image_in image.now) frame.now entered }
-    ensures { Carries row.old time octets (by_entry (image_in image.now) port frame.now entered) result row.new }
+    requires port_bound { (port < 5) × (length frame.now ≤ 4096) }
+    requires through { Through (image_in image.now) frame.now (entered_in entered) }
+    ensures { Carries row.old time (octets_of frame.now) (by_entry (image_in image.now) port frame.now (entered_in entered)) (verdict_in result) row.new }
 {
-    match entered {
-        Entered::Dropped(drop) => Verdict::Drop(drop),
-        Entered::In {
-            vlan,
-            place,
-            priority,
-        } => {
-            let destination = mac_at(frame, 0);
-            let_in(
-                image,
-                row,
-                port,
-                time,
-                octets,
-                destination,
-                vlan,
-                place,
-                priority,
-            )
-        }
-    }
+    let entrant = entered?;
+    let arrival = Arrival::of(port, time, frame);
+    let policer = police(image, arrival, entrant.priority)?;
+    carry_on(image, row, arrival, entrant, policer)
 }
 
 // The verdict on a frame that came in at a port at a time in µs, and on its replicas.
@@ -161,18 +110,17 @@ pub fn judge(
 ) -> Judgement
     ensures { Judges image.now row.old port time frame.now replicas.old result row.new replicas.new }
 {
-    let refused = refusal(image, row, port, time, frame);
-    if refused != 0 {
+    if let Err(refusal) = refusal(image, row, port, time, frame) {
         return Judgement {
-            verdict: Verdict::Refused(refused),
+            verdict: Verdict::Refused(u32::from(refusal)),
             replicas: 0,
         };
     }
     let octets = frame.len() as u64 + 4;
     let entered = enter(image, port, frame);
-    let verdict = own(image, row, port, time, octets, frame, entered);
+    let verdict = Verdict::from(own(image, row, port, time, frame, entered));
     note(row, port, time, octets, is_drop(verdict));
-    let told = replicate(image, row, port, time, frame, entered, replicas);
+    let told = replicate(image, row, port, time, frame, entered.ok(), replicas);
     Judgement {
         verdict,
         replicas: told,

@@ -17,7 +17,7 @@ use Rattle.spend.specs.Proved.{now_stored}
 use Rattle.frame.specs.Bytes.{octets_of}
 use Rattle.plan.specs.declared.Course.{Course}
 use Rattle.plan.specs.Sane.{Sane}
-use Rattle.settle.specs.declared.Held.{Held}
+use Rattle.spend.specs.declared.Held.{Held}
 use Rattle.settle.specs.Settle.{meter_of, settled_by, held_at, stored, Judged}
 use Rattle.settle.specs.Note.{counts_at, noted}
 use Rattle.settle.specs.Noted.{time_noted}

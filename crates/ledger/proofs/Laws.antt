@@ -1,8 +1,8 @@
 -- What a store into one part leaves of the others, and what the tests behind 31, 30 and 39 tell once they have passed.
-use Rattle.std.specs.Prelude.{◌≡◌, ℕ, ◌+◌, ◌-◌, ◌*◌, ◌^◌, ◌<◌, Bool, true, false, cond, List, [], ◌∷◌, length, ◌==◌, ◌≢◌, nat_le, nat_lt, slice_index, slice_set, refl}
+use Rattle.std.specs.Prelude.{◌≡◌, Result, IsErrAnd, ℕ, ◌+◌, ◌-◌, ◌*◌, ◌^◌, ◌<◌, Bool, true, false, cond, List, [], ◌∷◌, length, ◌==◌, ◌≢◌, nat_le, nat_lt, slice_index, slice_set, refl}
 use Rattle.std.proofs.Common.{sym, ◌∙◌, subst, mod-lt, arith, pow_pos, length-set, get_or-set_same, get_or-set_other, ltb-false, leb-true, eqb-true}
 use Rattle.std.proofs.lemmas.Bool.{eqb-false}
-use Rattle.laws.specs.Chain.{none_first, none_rest, zero_first, zero_rest}
+use Rattle.laws.specs.Chain.{not_zero, none_first, none_rest, zero_first, zero_rest}
 use Rattle.laws.specs.ScanLaws.{none_at}
 use Rattle.image.specs.Layout.{image_words, image_in}
 use Rattle.fields.specs.Fields.{part_spc}
@@ -12,6 +12,9 @@ use Rattle.image.specs.SoundLaws.{sound}
 use Rattle.ledger.specs.Row.{parts, units, credit, since, frames, drops, octets, dropped, last, many, cell_count, cell}
 use Rattle.ledger.specs.Range.{latest, units_over, credit_over, octets_off, counts_off, tiles_off, times_over, out_of_range, unloaded, standing}
 use Rattle.ledger.specs.Stands.{Counted, InRange, Stands}
+use Rattle.ledger.specs.declared.refusal.Refusal.{Refusal}
+use Rattle.ledger.specs.Refusals.{number_of, refused_by}
+use Rattle.ledger.specs.RefusalsLaws.{refused, handed_on}
 
 -- ---- stores into the row
 
@@ -97,6 +100,10 @@ stands buffer g e = by (unloaded buffer == 0) refl e
 -- by a number r that a call handed over
 pub sound_as : (buffer g : List ℕ) (r : ℕ) → r ≡ standing buffer g → r ≡ 0 → Sound buffer
 sound_as buffer g r e z = (stands buffer g (sym e ∙ z)).image
+
+-- a refusal e that a call handed over is handed on, where the definition asks that call's number n first
+pub handed_first : {T : Type 0} (r : Result T Refusal) (e : Refusal) (n x : ℕ) → IsErrAnd r (λ f. f ≡ e) → number_of e ≡ n → refused_by r ≡ cond (n == 0) x n
+handed_first r e n x h q = handed_on r e h ∙ not_zero (number_of e) n (number_of e) x n q (refused e) q
 
 -- a partition's space has ten bits
 pub part_spc_small : (image : List ℕ) (j : ℕ) → part_spc image j < 1024

@@ -7,3 +7,5 @@ pub mod AboveLaws
 pub mod Answers
 pub mod AnswersLaws
 pub mod Proved
+pub mod Refusals
+pub mod RefusalsLaws

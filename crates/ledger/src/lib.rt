@@ -2,6 +2,7 @@
 #![tactic(auto)]
 
 pub mod range;
+pub mod refusal;
 
 pub const PARTITIONS: usize = 8;
 
@@ -31,15 +32,8 @@ pub const LAST: usize = DROPPED + PORTS;
 
 pub const CELLS: usize = LAST + 1;
 
-// The row by value.
+// The row by value: its parts stand one behind the other in one array, as C has it (`TailbowLedger` of include/tailbow.h).
 #[derive(Clone, Copy)]
 pub struct Ledger {
     pub cells: [u64; CELLS],
-}
-
-// The answer to a fresh ledger and to a release.
-#[derive(Clone, Copy)]
-pub enum Answer {
-    Refused(u32),
-    Done,
 }

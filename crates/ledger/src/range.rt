@@ -1,11 +1,14 @@
-// What refuses a call before its own numbers are looked at: 31, 30 and 39.
+// What refuses a call before its own numbers are looked at: 31, 30 and 39. `Sound` is asked in each contract, here, in `row` and in `judge`, and no type has it:
+// docs/ENTRIES.md names these functions.
 ghost use Rattle.std.specs.Prelude.{◌≡◌, ◌^◌, ◌<◌, ◌≤◌, ◌||◌, nat_lt};
 ghost use Rattle.image.specs.Layout.{image_in};
 ghost use Rattle.image.specs.Sound.{Sound};
 ghost use Rattle.ledger.specs.Row.{credit, last, many, cell};
 ghost use Rattle.ledger.specs.Above.{Tells, meter_over};
+ghost use Rattle.ledger.specs.Refusals.{refused_by};
 ghost use Rattle.ledger.specs.Range.{latest, units_over, full_of, credit_over, octets_off, counts_off, tiles_off, times_over, out_of_range, unloaded, standing};
 
+use crate::refusal::Refusal;
 use crate::{
     CELLS, CREDIT, DROPPED, DROPS, FRAMES, LAST, METERS, OCTETS, PARTITIONS, PORTS, SINCE, UNITS,
 };
@@ -31,10 +34,8 @@ fn units_over(image: &[u32], row: &[u64; CELLS]) -> bool
     ensures { result ≡ units_over (image_in image.now) row.now }
 {
     let mut all: u64 = 0;
-    let mut j: usize = 0;
-    while j < PARTITIONS {
-        all = all | above(fields::parameters::part_spc(image, j), row[UNITS + j]);
-        j += 1;
+    for j in 0..PARTITIONS {
+        all |= above(fields::parameters::part_spc(image, j), row[UNITS + j]);
     }
     all >> 63 == 1
 }
@@ -50,7 +51,7 @@ pub fn full(image: &[u32], k: usize) -> u64
     0
 }
 
-// Meter k holds more than `most`, or was set after the last time.
+// Meter k holds more than `most`, or was set after the last time: a flag in the top bit, as `above`.
 fn meter_over(row: &[u64; CELLS], k: usize, most: u64) -> u64
     requires { (k < many credit) × (most < 2 ^ 63) × (cell row.now last 0 ≤ latest) }
     ensures { Tells (meter_over row.now k most) result }
@@ -58,21 +59,19 @@ fn meter_over(row: &[u64; CELLS], k: usize, most: u64) -> u64
     above(most, row[CREDIT + k]) | above(row[LAST], row[SINCE + k])
 }
 
-// A meter holds more than when it is full, or was set after the last time: those with an entry first, then the others, which hold nothing when they are full.
+// A meter holds more than when it is full, or was set after the last time: those with an entry first, then the others, which hold nothing when they are full. Two loops, since one would
+// test in each turn whether the entry is there.
 fn meters_over(image: &[u32], row: &[u64; CELLS]) -> bool
     requires { Sound image.now × (cell row.now last 0 ≤ latest) }
     ensures { result ≡ (credit_over (image_in image.now) row.now || times_over row.now) }
 {
     let entries = image::count(image, Table::Policing);
     let mut all: u64 = 0;
-    let mut k: usize = 0;
-    while k < entries {
-        all = all | meter_over(row, k, full(image, k));
-        k += 1;
+    for k in 0..entries {
+        all |= meter_over(row, k, full(image, k));
     }
-    while k < METERS {
-        all = all | meter_over(row, k, 0);
-        k += 1;
+    for k in entries..METERS {
+        all |= meter_over(row, k, 0);
     }
     all >> 63 == 1
 }
@@ -93,31 +92,16 @@ fn counts_off(frames: u64, drops: u64, octets: u64, dropped: u64) -> bool
     ensures { result ≡ counts_off frames drops octets dropped }
 {
     if frames == 0 {
-        if drops != 0 {
-            return true;
-        }
-        if octets != 0 {
-            return true;
-        }
-        return 0 < dropped;
+        return drops != 0 || (octets != 0 || 0 < dropped);
     }
-    if frames < drops {
-        return true;
-    }
-    if octets_off(frames, octets) {
-        return true;
-    }
-    if octets_off(drops, dropped) {
-        return true;
-    }
-    octets < dropped
+    frames < drops || octets_off(frames, octets) || octets_off(drops, dropped) || octets < dropped
 }
 
+// A `for`: with `any` over the ports its clause did not close.
 fn tiles_off(row: &[u64; CELLS]) -> bool
     ensures { result ≡ tiles_off row.now }
 {
-    let mut p: usize = 0;
-    while p < PORTS {
+    for p in 0..PORTS {
         if counts_off(
             row[FRAMES + p],
             row[DROPS + p],
@@ -126,7 +110,6 @@ fn tiles_off(row: &[u64; CELLS]) -> bool
         ) {
             return true;
         }
-        p += 1;
     }
     false
 }
@@ -136,41 +119,29 @@ pub fn out_of_range(image: &[u32], row: &[u64; CELLS]) -> bool
     requires { Sound image.now }
     ensures { result ≡ out_of_range (image_in image.now) row.now }
 {
-    if LATEST < row[LAST] {
-        return true;
-    }
-    if units_over(image, row) {
-        return true;
-    }
-    if tiles_off(row) {
-        return true;
-    }
-    meters_over(image, row)
+    LATEST < row[LAST] || (units_over(image, row) || (tiles_off(row) || meters_over(image, row)))
 }
 
-// 31, 30; 0 where neither refuses.
-pub fn unloaded(image: &[u32]) -> u32
-    ensures { result ≡ unloaded image.now }
+// 31, 30.
+pub fn unloaded(image: &[u32]) -> Result<(), Refusal>
+    ensures { refused_by result ≡ unloaded image.now }
 {
     if image::too_short(image) {
-        return 31;
+        return Err(Refusal::BufferTooShort);
     }
     if loaded::not_loaded(image) {
-        return 30;
+        return Err(Refusal::ImageNotLoaded);
     }
-    0
+    Ok(())
 }
 
-// 31, 30, 39; 0 where none of them refuses.
-pub fn standing(image: &[u32], row: &[u64; CELLS]) -> u32
-    ensures { result ≡ standing image.now row.now }
+// 31, 30, 39.
+pub fn standing(image: &[u32], row: &[u64; CELLS]) -> Result<(), Refusal>
+    ensures { refused_by result ≡ standing image.now row.now }
 {
-    let refused = unloaded(image);
-    if refused != 0 {
-        return refused;
-    }
+    unloaded(image)?;
     if out_of_range(image, row) {
-        return 39;
+        return Err(Refusal::LedgerOutOfRange);
     }
-    0
+    Ok(())
 }

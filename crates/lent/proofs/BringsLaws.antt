@@ -1,10 +1,9 @@
 -- What a frame and a release bring, each by its own promise, and that the promise permits one outcome.
-use Rattle.std.specs.Prelude.{◌≡◌, refl, true, false, List, ℕ, ltb, drop, get_or}
+use Rattle.std.specs.Prelude.{◌≡◌, refl, true, false, List, ℕ, ltb, drop, get_or, Ok, Err}
 use Rattle.std.proofs.Common.{sym, ◌∙◌, ap, true≢false}
 use Rattle.laws.specs.Says.{Says, says}
 use Rattle.laws.specs.SaysLaws.{other_kind}
-use Rattle.ledger.specs.declared.Answer.{Answer}
-use Rattle.ledger.specs.declared.Answer.TheVariants as answer
+use Rattle.ledger.specs.Answers.{Answer}
 use Rattle.row.specs.Release as release
 use Rattle.settle.specs.declared.Verdict.{Verdict}
 use Rattle.settle.specs.declared.Verdict.TheVariants as verdict
@@ -52,17 +51,17 @@ verdict_below (verdict.Drop n) = refl
 verdict_below (verdict.Sent s) = refl
 
 of_release : (a : Answer) → ltb 2 (said_of (Released a)).kind ≡ true
-of_release (answer.Refused n) = refl
-of_release answer.Done = refl
+of_release (Err n) = refl
+of_release (Ok done) = refl
 
 mixed : (j : Judgement) (a : Answer) → said_of (Judged j) ≡ said_of (Released a) → ⊥
 mixed j a e = true≢false (sym (of_release a) ∙ sym (ap (λ (s : Says). ltb 2 s.kind) e) ∙ verdict_below j.verdict)
 
 releases_apart : (a b : Answer) → said_of (Released a) ≡ said_of (Released b) → a ≡ b
-releases_apart (answer.Refused m) (answer.Refused n) e = ap (λ (s : Says). answer.Refused s.number) e
-releases_apart answer.Done answer.Done e = refl
-releases_apart (answer.Refused m) answer.Done e = absurd (other_kind e refl)
-releases_apart answer.Done (answer.Refused n) e = absurd (other_kind e refl)
+releases_apart (Err m) (Err n) e = ap (λ (s : Says). Err s.number) e
+releases_apart (Ok x) (Ok y) e = refl
+releases_apart (Err m) (Ok x) e = absurd (other_kind e refl)
+releases_apart (Ok x) (Err n) e = absurd (other_kind e refl)
 
 -- a frame's verdict is read behind the number of its replicas
 judgements_apart : (a b : Judgement) → frame_says a ≡ frame_says b → a ≡ b

@@ -1,9 +1,7 @@
 -- What a record tells, and the row and the lent places that it leaves: a frame by the judge's definition, a release by the ledger's.
-use Rattle.std.specs.Prelude.{◌≡◌, List, [], ◌∷◌, ℕ}
+use Rattle.std.specs.Prelude.{◌≡◌, List, [], ◌∷◌, ℕ, Ok, Err}
 use Rattle.laws.specs.Says.{Says, says}
-use Rattle.ledger.specs.declared.Answer.{Answer}
-use Rattle.ledger.specs.declared.Answer.TheVariants.{Refused, Done}
-use Rattle.ledger.specs.Answers.{answer_of}
+use Rattle.ledger.specs.Answers.{Answer, answer_of}
 use Rattle.row.specs.Release.{release_refusal, released}
 use Rattle.places.specs.Places.{laid_over}
 use Rattle.judge.specs.declared.Judgement.{Judgement}
@@ -15,8 +13,8 @@ use Rattle.lent.specs.declared.Told.TheVariants.{Judged, Released}
 
 -- what is said in document 01's terms: a verdict's kinds are 0 to 2, a release's follow on
 abbrev pub release_says : Answer → Says
-release_says (Refused n) = says 3 n []
-release_says Done = says 4 0 []
+release_says (Err n) = says 3 n []
+release_says (Ok done) = says 4 0 []
 
 -- of a frame, how many replicas were told stands before the verdict's own values
 abbrev pub frame_says : Judgement → Says

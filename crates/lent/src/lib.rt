@@ -5,7 +5,7 @@
 ghost use Rattle.lent.specs.Brings.{Brings};
 
 use judge::{Judgement, judge};
-use ledger::{Answer, Ledger};
+use ledger::Ledger;
 use places::PLACES;
 use row::release::release;
 
@@ -19,7 +19,7 @@ pub enum Event {
 #[derive(Clone, Copy)]
 pub enum Told {
     Judged(Judgement),
-    Released(Answer),
+    Released(Result<(), u32>),
 }
 
 // What is told of a record, and the ledger afterwards.

@@ -1,14 +1,9 @@
 -- One word, and a run word by word.
-use mathlib.Core.Path.{◌≡◌, sym, ◌∙◌, ap}
-use mathlib.Core.List.{List}
-use Prim.Native.Nat.{ℕ, ◌+◌, ◌<◌, ◌≤◌}
-use lib.ListN.{length, get_or, drop}
+use Rattle.std.proofs.Common.{◌≡◌, sym, ◌∙◌, ap, List, ℕ, ◌+◌, ◌<◌, ◌≤◌, length, get_or, drop, add-one, le_antisymm, drop-cons}
 use Rattle.stream.specs.Machine.{Machine, at, step_in, step, run}
 use Rattle.stream.specs.declared.Phase.{Phase}
 use Rattle.stream.specs.declared.Load.{Load}
-use native.Mathlib.Numerals.{add-one}
-use native.Mathlib.Nat.{le_antisymm}
-use lib.Seq.{drop-cons, drop-length}
+use Rattle.std.proofs.Math.Seq.{drop-length}
 
 pub at_phase : (l : Load) (buffer : List ℕ) (w : ℕ) (p : Phase) → l.phase ≡ p → step_in p l buffer w ≡ step (at l buffer) w
 unfolding step

@@ -2,16 +2,15 @@
 ghost use Rattle.std.specs.Prelude.{◌≡◌, [], ◌∷◌, ◌<◌, ◌≤◌, length};
 ghost use Rattle.crc.specs.Crc.{checksum};
 ghost use Rattle.image.specs.Layout.{image_words, image_in};
-ghost use Rattle.image.specs.Sound.{Within};
+ghost use Rattle.image.specs.Sound.{Bounded};
 ghost use Rattle.image.specs.Blocks.{block_of};
-ghost use Rattle.image.specs.declared.tables.Block.TheVariants.{Carried};
-ghost use Rattle.stream.specs.Header.{id_of, header_of};
+ghost use Rattle.stream.specs.Header.{id_of, header_of, header_told};
 ghost use Rattle.stream.specs.Machine.{had_in, finish, ended_by, begun_by, summed, started_by};
 ghost use Rattle.stream.specs.Leaves.{Leaves};
 
 use image::tables;
-use image::tables::{Block, Table};
-use stream::{Header, Load, states};
+use image::tables::Table;
+use stream::{Fault, Load, WrongHeader, states};
 
 // Word 0.
 pub fn device(image: &mut [u32], w: u32) -> Load
@@ -19,39 +18,36 @@ pub fn device(image: &mut [u32], w: u32) -> Load
     ensures { Leaves (started_by image.old w) result image.new }
 {
     if w != 0x9E00_030E {
-        return states::refuse(image, 1);
+        states::refuse(image, u32::from(Fault::WrongDevice))
+    } else {
+        states::idle(crc::word_in(crc::START, w))
     }
-    states::idle(crc::word_in(crc::START, w))
 }
 
 // 5 and 6, for a table that is carried.
-fn fits(image: &[u32], table: Table, n: usize) -> Header
-    requires { (image_words ≤ length image.now) × Within (image_in image.now) × (n < 16777216) }
-    ensures { result ≡ header_of (Carried table) n (had_in image.now) }
+fn fits(image: &[u32], table: Table, n: usize) -> Result<Table, WrongHeader>
+    requires { Bounded image.now × (n < 16777216) }
+    ensures { header_told result ≡ header_of (Ok table) n (had_in image.now) }
 {
     let row = tables::row_of(table);
     let size = row.size;
     if n % size != 0 {
-        return Header::Wrong(5);
+        return Err(WrongHeader::PartialEntry);
     }
     let had = image::count(image, table);
     if row.most < had + n / size {
-        return Header::Wrong(6);
+        return Err(WrongHeader::TooManyEntries);
     }
-    Header::Right(table)
+    Ok(table)
 }
 
 // 3 to 6 for a block of n data words, or its table.
-fn header_of(image: &[u32], first: u32, n: usize) -> Header
-    requires { (image_words ≤ length image.now) × Within (image_in image.now) × (n < 16777216) }
-    ensures { result ≡ header_of (block_of (id_of first)) n (had_in image.now) }
+fn header_of(image: &[u32], first: u32, n: usize) -> Result<Table, WrongHeader>
+    requires { Bounded image.now × (n < 16777216) }
+    ensures { header_told result ≡ header_of (block_of (id_of first)) n (had_in image.now) }
 {
-    let block = tables::block_of(first / 16777216);
-    match block {
-        Block::Carried(table) => fits(image, table, n),
-        Block::NotCarried => Header::Wrong(4),
-        Block::Unknown => Header::Wrong(3),
-    }
+    let table = tables::block_of(first / 16777216)?;
+    fits(image, table, n)
 }
 
 // The checksum of a block's two header words.
@@ -63,51 +59,50 @@ fn header_sum(first: u32, second: u32) -> u32
 
 // The end block has passed: the image is marked and the rules are run.
 fn finish(image: &mut [u32]) -> Load
-    requires { (image_words ≤ length image.old) × Within (image_in image.old) }
+    requires { Bounded image.old }
     ensures { Leaves (finish image.old) result image.new }
 {
     image::set_mark(image);
-    let n = rules::first_broken_rule(image);
-    if n != 0 {
-        return states::refuse(image, n);
+    match rules::first_broken_rule(image) {
+        Ok(()) => states::told(0),
+        Err(rule) => states::refuse(image, u32::from(rule)),
     }
-    states::told(0)
 }
 
 // A block's third word where its length is 0: the global checksum.
 fn ended(image: &mut [u32], stream: u32, w: u32) -> Load
-    requires { (image_words ≤ length image.old) × Within (image_in image.old) }
+    requires { Bounded image.old }
     ensures { Leaves (ended_by stream image.old w) result image.new }
 {
     if w != crc::finish(stream) {
-        return states::refuse(image, 8);
+        states::refuse(image, u32::from(Fault::StreamSum))
+    } else {
+        finish(image)
     }
-    finish(image)
 }
 
 // A header whose checksum is right: 3 to 6, or its data follow.
 fn begun(image: &mut [u32], stream: u32, first: u32, n: usize) -> Load
-    requires { (image_words ≤ length image.old) × Within (image_in image.old) × (n < 16777216) }
+    requires { Bounded image.old × (n < 16777216) }
     ensures { Leaves (begun_by stream first n image.old) result image.new }
 {
-    let header = header_of(image, first, n);
-    match header {
-        Header::Wrong(number) => states::refuse(image, number),
-        Header::Right(table) => states::filling(table, 0, n, stream, crc::START),
+    match header_of(image, first, n) {
+        Ok(table) => states::filling(table, 0, n, stream, crc::START),
+        Err(wrong) => states::refuse(image, u32::from(wrong)),
     }
 }
 
 // A block's third word.
 pub fn summed(image: &mut [u32], stream: u32, first: u32, second: u32, w: u32) -> Load
-    requires { (image_words ≤ length image.old) × Within (image_in image.old) }
+    requires { Bounded image.old }
     ensures { Leaves (summed stream first second image.old w) result image.new }
 {
     let n = second % 16777216;
     if n == 0 {
-        return ended(image, stream, w);
+        ended(image, stream, w)
+    } else if w != header_sum(first, second) {
+        states::refuse(image, u32::from(Fault::HeaderSum))
+    } else {
+        begun(image, crc::word_in(stream, w), first, n as usize)
     }
-    if w != header_sum(first, second) {
-        return states::refuse(image, 2);
-    }
-    begun(image, crc::word_in(stream, w), first, n as usize)
 }

@@ -18,6 +18,7 @@ const BUFFER: usize = IMAGE_WORDS + 4;
 // What the buffer holds before a load, in each word.
 const FOUND: u32 = 0xA5A5_A5A5;
 
+// A function, since a Display would have to stand with the type, in stream, of which no other program prints an answer.
 fn print_answer<W: Write>(out: &mut W, answer: Answer) -> io::Result<()> {
     match answer {
         Answer::More => write!(out, "more"),
@@ -50,66 +51,61 @@ fn by_words<W: Write>(out: &mut W, words: &[u32]) -> io::Result<()> {
     report(out, "words", answer, &buffer)
 }
 
-fn least(a: usize, b: usize) -> usize
-    requires { (0 < a) × (0 < b) }
-    ensures { (0 < result) × (result ≤ b) }
-{
-    if a < b { a } else { b }
-}
-
-// One of some writes: those of 64 words go by tables, all others word by word.
-fn write(most: usize, buffer: &mut [u32], load: Load, words: &[u32]) -> Wrote {
-    if most == 64 {
-        return quick::write(buffer, load, words);
-    }
-    loader::write(buffer, load, words)
-}
-
-// Writes of `most` words until all are written, also past the answer. The last answer counts; "more" where there is no word.
-fn in_writes(buffer: &mut [u32], words: &[u32], most: usize) -> Answer
-    requires { 0 < most }
+// Writes of `most` words by `write` until all are written, also past the answer. The last answer counts; "more" where there is no word.
+fn in_writes<F: Fn(&mut [u32], Load, &[u32]) -> Wrote>(
+    buffer: &mut [u32],
+    words: &[u32],
+    most: usize,
+    write: F,
+) -> Answer
+    requires callable { F.IsAlwaysCallable write }
+    requires some { 0 < most }
 {
     let mut load = states::fresh();
     let mut answer = Answer::More;
-    let mut at = 0;
-    while at < words.len() {
-        let end = at + least(most, words.len() - at);
-        let wrote = write(most, buffer, load, &words[at..end]);
+    for part in words.chunks(most) {
+        let wrote = write(buffer, load, part);
         load = wrote.load;
         answer = wrote.answer;
-        at = end;
     }
     answer
 }
 
-fn by_writes<W: Write>(out: &mut W, way: &str, words: &[u32], most: usize) -> io::Result<()>
-    requires { 0 < most }
+fn by_writes<W: Write, F: Fn(&mut [u32], Load, &[u32]) -> Wrote>(
+    out: &mut W,
+    way: &str,
+    words: &[u32],
+    most: usize,
+    write: F,
+) -> io::Result<()>
+    requires callable { F.IsAlwaysCallable write }
+    requires some { 0 < most }
 {
     let mut buffer = [FOUND; BUFFER];
-    let answer = in_writes(&mut buffer, words, most);
+    let answer = in_writes(&mut buffer, words, most, write);
     report(out, way, answer, &buffer)
 }
 
-// The ways that take words. A write of 65 is refused, and what follows it goes on.
+// The ways that take words: writes of 64 go by tables, the others word by word. A write of 65 is refused, and what follows it goes on.
 fn in_words<W: Write>(out: &mut W, words: &[u32]) -> io::Result<()> {
     by_words(out, words)?;
-    by_writes(out, "by 1", words, 1)?;
-    by_writes(out, "by 7", words, 7)?;
-    by_writes(out, "by 64", words, 64)?;
-    by_writes(out, "by 65", words, 65)
+    by_writes(out, "by 1", words, 1, loader::write)?;
+    by_writes(out, "by 7", words, 7, loader::write)?;
+    by_writes(out, "by 64", words, 64, quick::write)?;
+    by_writes(out, "by 65", words, 65, loader::write)
 }
 
-// Bytes as words; no stream here is longer than 16,384 of them.
+// Bytes as words, in a fixed buffer, since no memory is asked for here; no stream is longer than 16,384 of them.
 fn as_words<W: Write>(out: &mut W, bytes: &[u8]) -> io::Result<()> {
     let mut words = [0u32; 16384];
-    let n = bytes.len() / 4;
-    if 16384 < n {
+    let (fours, _) = bytes.as_chunks::<4>();
+    let Some(part) = words.get_mut(..fours.len()) else {
         return Ok(());
+    };
+    for (word, four) in part.iter_mut().zip(fours) {
+        *word = word_at(four, 0);
     }
-    for i in 0..n {
-        words[i] = word_at(bytes, 4 * i);
-    }
-    in_words(out, &words[..n])
+    in_words(out, part)
 }
 
 // One stream in every way.
@@ -125,10 +121,10 @@ fn run<W: Write>(out: &mut W, bytes: &[u8]) -> io::Result<()> {
 fn fill<R: Read>(input: &mut R, buffer: &mut [u8], n: usize) -> usize
     ensures { result ≤ length buffer.new }
 {
-    if buffer.len() < n {
+    let Some(part) = buffer.get_mut(..n) else {
         return 0;
-    }
-    input::fill(input, &mut buffer[..n]).count
+    };
+    input::fill(input, part).count
 }
 
 // One case: a name of 32 bytes, a length, the stream. False where there is none.

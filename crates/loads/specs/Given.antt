@@ -9,17 +9,14 @@ use Rattle.image.specs.Rows.{size_of}
 use Rattle.image.specs.Layout.{image_words, image_in, list_of, count_of, entry_of, image_of}
 use Rattle.image.specs.Loaded.{too_short}
 use Rattle.image.specs.Images.{layout_count, layout_entry}
-use Rattle.image.specs.Blocks.{block_of}
+use Rattle.image.specs.Blocks.{Block, block_of}
 use Rattle.image.specs.declared.tables.Table.{Table}
-use Rattle.image.specs.declared.tables.Block.{Block}
 use Rattle.rules.specs.Rules.{ruled}
-use Rattle.stream.specs.Header.{device, id_of, length_of, header_of}
+use Rattle.stream.specs.Header.{Header, Wrong, Right, device, id_of, length_of, header_of}
 use Rattle.stream.specs.Passes.{Passes}
 use Rattle.stream.specs.Headers.{right}
 use Rattle.stream.specs.declared.Answer.{Answer}
 use Rattle.stream.specs.declared.Answer.TheVariants.{Loaded, Refused}
-use Rattle.stream.specs.declared.Header.{Header}
-use Rattle.stream.specs.declared.Header.TheVariants.{Wrong, Right}
 use Rattle.stream.specs.Paper.{Framed, refused, cut, passed, none, put, had, headed_by, checked, blocks, framed, Outcome, refused_with, outcome_of, loaded, Whole, into, as_found, numbered, loaded_words}
 use Rattle.stream.specs.Leaves.{Ends}
 use Rattle.stream.specs.Bridge.{Sound}

@@ -8,9 +8,7 @@ use Rattle.image.specs.RowLaws.{count_before_mark}
 use Rattle.image.specs.Blocks.{block_of}
 use Rattle.image.specs.Layout.{image_in, count_at, marked}
 use Rattle.rules.specs.Rules.{rules, first_of, ruled}
-use Rattle.stream.specs.Header.{device, id_of, length_of, header_of, wrong_passes}
-use Rattle.stream.specs.declared.Header.{Header}
-use Rattle.stream.specs.declared.Header.TheVariants.{Wrong, Right}
+use Rattle.stream.specs.Header.{Header, Wrong, Right, device, id_of, length_of, header_of, wrong_passes}
 use Rattle.stream.specs.declared.Load.{Load}
 use Rattle.stream.specs.declared.Phase.{Phase}
 use Rattle.stream.specs.declared.Phase.TheVariants.{Device, Id, Length, Sum, Data, Told}

@@ -2,12 +2,13 @@
 // what it looks for, and only such a group's one after the other.
 #![tactic(auto)]
 
+pub mod groups;
 pub mod vlan;
 
 ghost use Rattle.std.specs.Prelude.{◌≡◌, not, ◌/◌, ◌^◌, ◌<◌, eqb};
 ghost use Rattle.laws.specs.Scan.{flag};
 
-// A number whose top bit is clear exactly where the two are equal.
+// A number whose top bit is clear exactly where the two are equal. And-ed, sixteen of them need no test each: a flag in place of a bool, for speed.
 pub fn apart(a: u32, b: u32) -> u32
     requires { (a < 2 ^ 31) × (b < 2 ^ 31) }
     ensures { result / 2 ^ 31 ≡ flag (not (eqb a b)) }

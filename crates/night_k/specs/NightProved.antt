@@ -1,5 +1,5 @@
 -- "The night of K, whole": every permitted night of K's list, under whatever a permitted whole load of K's stream leaves, says document 01's output.
-use Rattle.std.specs.Prelude.{◌≡◌, refl, false, ℕ, ◌<◌, drop, Float}
+use Rattle.std.specs.Prelude.{◌≡◌, refl, false, ℕ, ◌<◌, drop, Float, Ok}
 use Rattle.std.proofs.Common.{◌∙◌, le_of_suc-le-suc, lit<, le-ltb}
 use Rattle.std.proofs.Math.Path.{ap}
 use mathlib.Core.List.{List, [], ◌∷◌}
@@ -14,7 +14,7 @@ use Rattle.stream.specs.Paper.{Whole, loaded_words}
 use Rattle.stream.specs.Leaves.{Ends}
 use Rattle.config_k.specs.Stream.{K}
 use Rattle.config_k.specs.Fields.{IsK}
-use Rattle.ledger.specs.declared.Answer as ledger
+use Rattle.ledger.specs.Answers as ledger
 use Rattle.row.specs.Fresh.{fresh_of}
 use Rattle.row.specs.Release.{release_refusal, released}
 use Rattle.settle.specs.declared.Verdict.{Verdict}
@@ -23,9 +23,7 @@ use Rattle.settle.specs.Settle.{judged}
 use Rattle.settle.specs.Note.{counts_at}
 use Rattle.judge.specs.Judge.{Called, by_itself, call_of}
 use Rattle.tile.specs.declared.shares.Tile.TheVariants.{NoFrames, Shares}
-use Rattle.tile.specs.declared.shares.Asked.{Asked}
-use Rattle.tile.specs.declared.shares.Asked.TheVariants.{Shown}
-use Rattle.tile.specs.Tiles.{share_of, tile_at, asked_of, bits_of}
+use Rattle.tile.specs.Tiles.{Asked, share_of, tile_at, asked_of, bits_of}
 use Rattle.kept.specs.History.{Event, frame, release, after}
 use Rattle.flat_answers.specs.declared.FlatVerdict.{FlatVerdict}
 use Rattle.flat_answers.specs.declared.FlatTile.{FlatTile}
@@ -102,17 +100,17 @@ module _ {Verdicts Answers : Type 0} (as_verdict : Verdict → Verdicts) (as_ans
 module _ {Verdicts Answers Tiles : Type 0} (as_verdict : Verdict → Verdicts) {as_answer : ℕ → Answers} {as_tile : Asked → Tiles} {buffer : List ℕ}
     {Fresh : Answers → List ℕ → Type 0} {Judge : List ℕ → ℕ → ℕ → List ℕ → Heard Verdicts → List ℕ → Type 0} {Release : List ℕ → ℕ → Answers → List ℕ → Type 0}
     {Tile : List ℕ → ℕ → Tiles → Type 0} (says : AsDefined (heard_of as_verdict) as_answer as_tile buffer Fresh Judge Release Tile) (l : IsLoaded buffer) (k : IsK (image_in buffer))
-    (Shows : ℕ → ℕ → Tiles → Type 0) (as_shares : (x y : Float) (s o : ℕ) → Bits x s → Bits y o → Shows s o (as_tile (Shown (Shares x y)))) where
+    (Shows : ℕ → ℕ → Tiles → Type 0) (as_shares : (x y : Float) (s o : ℕ) → Bits x s → Bits y o → Shows s o (as_tile (Ok (Shares x y)))) where
   -- the output, in the entries' own form
   output : {first : Answers} {g z : List ℕ} {said : List (Said (Heard Verdicts) Answers)} {tile : ℕ → Tiles}
       → Night Fresh Judge Release Tile (events_in list_of_k) first g said z tile
-      → Output (only (as_verdict (Sent sent_of_k))) (λ (n : ℕ). only (as_verdict (Drop n))) (as_answer 0) Shows (as_tile (Shown NoFrames)) first said z tile
+      → Output (only (as_verdict (Sent sent_of_k))) (λ (n : ℕ). only (as_verdict (Drop n))) (as_answer 0) Shows (as_tile (Ok NoFrames)) first said z tile
   unfolding row
   output {first} {g} {z} {said} {tile} n =
       let t = told as_verdict as_answer buffer l k in
       let r = fresh_run_is says (not_unloaded buffer l k) n.fresh n.run in
       let last : z ≡ ended = r.1 ∙ t.leaves in
-      let at : (p : ℕ) → p < 5 → tile p ≡ as_tile (Shown (tile_at ended p)) =
+      let at : (p : ℕ) → p < 5 → tile p ≡ as_tile (Ok (tile_at ended p)) =
       λ p h. says.tile z p (tile p) (n.tiles p h)
       ∙ ap (λ (x : List ℕ). as_tile (asked_of buffer x p)) last
       ∙ ap as_tile (shows buffer l k p (le-ltb 4 p (le_of_suc-le-suc h)))

@@ -1,19 +1,17 @@
 -- The whole output that document 01 gives for configuration K and its list ("The verdict program"), as what the entries answer: its lines, one by one.
-use Rattle.std.specs.Prelude.{◌≡◌, false, List, [], ◌∷◌, ℕ, Float}
+use Rattle.std.specs.Prelude.{◌≡◌, false, List, [], ◌∷◌, ℕ, Float, Ok}
 use Rattle.std.specs.Float.{binary64}
 use Rattle.std.specs.Float.Ieee.{to_bits}
 use Rattle.image.specs.Layout.{image_in, image_of}
 use Rattle.image.specs.Loaded.{too_short}
 use Rattle.config_k.specs.Tables.{k_tables}
-use Rattle.ledger.specs.declared.Answer.{Answer}
-use Rattle.ledger.specs.declared.Answer.TheVariants.{Done}
+use Rattle.ledger.specs.Answers.{Answer}
 use Rattle.ports.specs.declared.Sending.{Sending}
 use Rattle.settle.specs.declared.Verdict.{Verdict}
 use Rattle.settle.specs.declared.Verdict.TheVariants.{Drop, Sent}
 use Rattle.settle.specs.Note.{counts_at}
 use Rattle.tile.specs.declared.shares.Tile.TheVariants.{NoFrames, Shares}
-use Rattle.tile.specs.declared.shares.Asked.{Asked}
-use Rattle.tile.specs.declared.shares.Asked.TheVariants.{Shown}
+use Rattle.tile.specs.Tiles.{Asked}
 use Rattle.flat_answers.specs.declared.FlatVerdict.{FlatVerdict}
 use Rattle.flat_answers.specs.declared.FlatTile.{FlatTile}
 use Rattle.nights.specs.Nights.{Heard, only, Said, verdict, answer}
@@ -51,13 +49,13 @@ pub record Output {Verdicts Answers Tiles : Type 0} (sent : Verdicts) (drop : �
 pub record ShowsBits (share octets : ℕ) (t : Asked) : Type 0 where
   pub frame_share : Float
   pub octet_share : Float
-  pub whole : t ≡ Shown (Shares frame_share octet_share)
+  pub whole : t ≡ Ok (Shares frame_share octet_share)
   pub share_bits : to_bits binary64 frame_share ≡ share
   pub octet_bits : to_bits binary64 octet_share ≡ octets
 
 -- the lines of a night of them
 abbrev pub OutputOf : Answer → List (Said (Heard Verdict) Answer) → List ℕ → (ℕ → Asked) → Type 0
-OutputOf = Output (only (Sent sent_of_k)) (λ (n : ℕ). only (Drop n)) Done ShowsBits (Shown NoFrames)
+OutputOf = Output (only (Sent sent_of_k)) (λ (n : ℕ). only (Drop n)) (Ok tt) ShowsBits (Ok NoFrames)
 
 -- ---- at those for C and Rust, by kinds and numbers written out, so that no definition of theirs has a part in what is expected
 -- "sent 30 vlan 1 prio 0 tags 0 queues 0 0 0 0 0", kind 2

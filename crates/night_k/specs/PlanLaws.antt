@@ -10,12 +10,10 @@ use Rattle.frame.specs.Bytes.{tag_of}
 use Rattle.frame.specs.Intake.{intake_of}
 use Rattle.ports.specs.Ports.{wanted_of, egress_ports, others, ports_of, sending_at, sending_of}
 use Rattle.ports.specs.Laws.{same_cut, same_mask}
-use Rattle.plan.specs.declared.Planned.TheVariants.{Dropped, Goes}
-use Rattle.plan.specs.declared.enter.Entered.TheVariants.{In}
+use Rattle.plan.specs.Plan.{Dropped, Goes, course_of, plan_of}
+use Rattle.plan.specs.Enter.{In, enter_of}
 use Rattle.plan.specs.Steps.{placed_of, kept_out}
-use Rattle.plan.specs.Enter.{enter_of}
 use Rattle.plan.specs.Police.{policed_of}
-use Rattle.plan.specs.Plan.{course_of, plan_of}
 use Rattle.judge.specs.Judge.{plan_for}
 use Rattle.night_k.specs.Output.{sent_of_k}
 

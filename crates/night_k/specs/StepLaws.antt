@@ -1,6 +1,6 @@
 -- K's night on literal rows: the fresh ledger, and each judgement, release and tile computed from the definitions. Here alone outside its crate is
 -- `judge_of` opened, since a judgement is computed.
-use Rattle.std.specs.Prelude.{◌≡◌, Bool, true, false, cond, List, ltb, replicate}
+use Rattle.std.specs.Prelude.{◌≡◌, Bool, true, false, cond, List, ltb, replicate, Ok}
 use Rattle.std.proofs.Math.Path.{refl, ap, subst}
 use Rattle.std.proofs.Common.{◌∙◌, lt-ltb, ltb-true, ltb-false}
 use Prim.Native.Nat.{ℕ, zero, suc, ◌+◌, ◌-◌, ◌<◌}
@@ -14,14 +14,13 @@ use Rattle.row.specs.Fresh.{table, fresh_cell, fresh_of}
 use Rattle.row.specs.Release.{release_refusal, released}
 use Rattle.spend.specs.Spend.{paid_of, spent_of, counted_of}
 use Rattle.frame.specs.Bytes.{octets_of}
-use Rattle.plan.specs.declared.Planned.{Planned}
+use Rattle.plan.specs.Plan.{Planned}
 use Rattle.settle.specs.declared.Verdict.TheVariants.{Drop, Sent}
 use Rattle.settle.specs.Settle.{judged, carried_out, settled_of}
 use Rattle.settle.specs.Note.{noted}
 use Rattle.judge.specs.Refusal.{unjudged, refusal_of}
 use Rattle.judge.specs.Judge.{plan_for, noted_of, judge_of, Called, by_itself, call_of}
 use Rattle.judge.proofs.Proved.{no_match}
-use Rattle.tile.specs.declared.shares.Asked.TheVariants.{Shown}
 use Rattle.tile.specs.Tiles.{tile_at, asked_of}
 use Rattle.kept.specs.Kept.{Kept}
 use Rattle.kept.specs.KeptLaws.{fresh_kept, passes_39}
@@ -137,6 +136,6 @@ module _ (buffer : List ℕ) (l : IsLoaded buffer) (k : IsK (image_in buffer)) w
   kept_ended = leads freed_one ended (frame 1 30 short) kept_freed (ap (λ (c : Called). c.row) fourth_frame)
 
   -- the tiles of the last row
-  pub shows : (p : ℕ) → ltb 4 p ≡ false → asked_of buffer ended p ≡ Shown (tile_at ended p)
+  pub shows : (p : ℕ) → ltb 4 p ≡ false → asked_of buffer ended p ≡ Ok (tile_at ended p)
   unfolding asked_of
   shows p h = rw (l.room, h, l.marked, in_range ended kept_ended)

@@ -1,5 +1,5 @@
 -- Demand 1: an image that isn't loaded is never judged; and one that is loaded is never told 30.
-use Rattle.std.specs.Prelude.{◌≡◌, Bool, cond, List, ℕ, ◌<◌, ltb, leb, eqb, length, Float}
+use Rattle.std.specs.Prelude.{◌≡◌, Bool, cond, List, ℕ, ◌<◌, ltb, leb, eqb, length, Float, Ok, Err}
 use Rattle.std.proofs.Math.Path.{refl, sym}
 use Rattle.std.proofs.Common.{◌∙◌, ap, le_of_suc-le-suc, arith}
 use Rattle.std.proofs.Math.Bool.{true, false}
@@ -22,9 +22,7 @@ use Rattle.judge.specs.declared.Judgement.{Judgement}
 use Rattle.judge.specs.Judge.{Called, by_itself, call_of, answer_of as answer_of_call}
 use Rattle.judge.proofs.Proved.{refused_call}
 use Rattle.tile.specs.declared.shares.Tile.TheVariants.{NotLoaded, NoFrames, Shares}
-use Rattle.tile.specs.declared.shares.Asked.{Asked}
-use Rattle.tile.specs.declared.shares.Asked.TheVariants as asked
-use Rattle.tile.specs.Tiles.{tile_at, asked_of}
+use Rattle.tile.specs.Tiles.{Asked, tile_at, asked_of}
 use Rattle.flat_answers.specs.declared.FlatTile.{FlatTile}
 use Rattle.flat_answers.specs.Answers.{flat_verdict, flat_tile}
 use Rattle.flat_frames.specs.declared.FlatJudged.{FlatJudged}
@@ -64,7 +62,7 @@ module _ (buffer : List ℕ) (u : Unloaded buffer) where
   fresh_30 : freshened buffer ≡ no_ledger
   fresh_30 = rw unloaded_30
 
-  tile_30 : (g : List ℕ) (p : ℕ) → p < 5 → asked_of buffer g p ≡ asked.Shown NotLoaded
+  tile_30 : (g : List ℕ) (p : ℕ) → p < 5 → asked_of buffer g p ≡ Ok NotLoaded
   unfolding asked_of
   tile_30 g p h = rw (u.room, le-ltb 4 p (le_of_suc-le-suc h), u.unmarked)
 
@@ -136,11 +134,11 @@ module _ (buffer : List ℕ) (l : IsLoaded buffer) where
   unfolding asked_of
   tile_not g p = rw (l.room, l.marked) (by (ltb 4 p) (out_of_range (image_in buffer) g))
     where
-      counted : (c : Bool) (frames octets : Float) → NotThirty (asked.Shown (cond c NoFrames (Shares frames octets)))
+      counted : (c : Bool) (frames octets : Float) → NotThirty (Ok (cond c NoFrames (Shares frames octets)))
       counted true frames octets = (λ e. absurd (omega arith), λ e. absurd (omega arith))
       counted false frames octets = (λ e. absurd (omega arith), λ e. absurd (omega arith))
 
-      by : (a b : Bool) → NotThirty (cond a (asked.Refused 33) (cond b (asked.Refused 39) (asked.Shown (tile_at g p))))
+      by : (a b : Bool) → NotThirty (cond a (Err 33) (cond b (Err 39) (Ok (tile_at g p))))
       by true b = (λ e. absurd (omega arith), λ e. absurd (omega arith))
       by false true = (λ e. absurd (omega arith), λ e. absurd (omega arith))
       by false false = counted (eqb (cell g frames p) 0) _ _

@@ -9,7 +9,7 @@ use borrow.Author.Tests.{lt-ltb, le-ltb, eqb-true}
 use Rattle.image.specs.Layout.{image_in}
 use Rattle.image.specs.Sound.{Sound}
 use Rattle.fields.specs.Fields.{sharindx}
-use Rattle.ledger.specs.declared.Answer.{Answer}
+use Rattle.ledger.specs.Answers.{Answer}
 use Rattle.ledger.specs.Row.{units, credit, since, many, cell_count, cell}
 use Rattle.ledger.proofs.Laws.{cells, other_place}
 use Rattle.row.specs.Release.{release_refusal, given_to, released, Released}
@@ -20,10 +20,9 @@ use Rattle.spend.specs.Spend.{spent, units_of, paid_of, credit_at, spent_of}
 use Rattle.spend.specs.Proved.{now_stored}
 use Rattle.frame.specs.Bytes.{octets_of, destination_of}
 use Rattle.plan.specs.declared.Course.{Course}
-use Rattle.plan.specs.declared.Planned.TheVariants.{Dropped, Goes}
-use Rattle.plan.specs.declared.enter.Entered.{Entered}
-use Rattle.plan.specs.declared.enter.Entered.TheVariants as entered
-use Rattle.plan.specs.Enter.{enter_of}
+use Rattle.plan.specs.Plan.{Dropped, Goes}
+use Rattle.plan.specs.Enter.{Entered, enter_of}
+use Rattle.plan.specs.Enter as entered
 use Rattle.plan.specs.Police.{policer_of}
 use Rattle.plan.specs.Sane.{Sane}
 use Rattle.settle.specs.declared.Verdict.{Verdict}

@@ -1,12 +1,11 @@
 -- A permitted run comes to one thing, and a night depends on the buffer only through its length's test and its image.
-use Rattle.std.specs.Prelude.{◌≡◌, refl, Bool, ℕ, ◌≤◌, eqb, length}
+use Rattle.std.specs.Prelude.{◌≡◌, refl, Bool, ℕ, ◌≤◌, eqb, length, Ok}
 use Rattle.std.proofs.Common.{sym, ◌∙◌, le-ltb}
 use Rattle.std.proofs.Math.Path.{ap}
 use Rattle.std.proofs.Math.Bool.{cond}
 use mathlib.Core.List.{List, [], ◌∷◌}
 use Rattle.image.specs.Layout.{image_words, image_in}
 use Rattle.image.specs.Loaded.{too_short, not_loaded}
-use Rattle.ledger.specs.declared.Answer.TheVariants.{Done}
 use Rattle.ledger.specs.Answers.{answer_of, number_of}
 use Rattle.ledger.specs.AnswersLaws.{numbered}
 use Rattle.ledger.specs.Range.{unloaded}
@@ -18,8 +17,7 @@ use Rattle.places.specs.PlacesLaws.{heard_over}
 use Rattle.judge.specs.declared.Judgement.{Judgement}
 use Rattle.judge.specs.Judge.{Called, call_of}
 use Rattle.judge.proofs.Proved.{same_call}
-use Rattle.tile.specs.declared.shares.Asked.{Asked}
-use Rattle.tile.specs.Tiles.{asked_of, Tiled}
+use Rattle.tile.specs.Tiles.{Asked, asked_of, Tiled}
 use Rattle.tile.specs.TilesLaws.{same_tile}
 use Rattle.kept.specs.History.{Event, frame, release, step, after}
 use Rattle.flat_answers.specs.Answers.{flat_verdict, flat_tile}
@@ -58,7 +56,7 @@ as_defined_flat buffer =
     }
 
 -- a fresh ledger was given: neither 31 nor 30
-pub not_refused : (buffer g : List ℕ) → Freshened buffer Done g → unloaded buffer ≡ 0
+pub not_refused : (buffer g : List ℕ) → Freshened buffer (Ok tt) g → unloaded buffer ≡ 0
 not_refused buffer g p = sym (numbered (unloaded buffer)) ∙ ap number_of (sym p.answer)
 
 module _ {Verdicts Answers Tiles : Type 0} {as_verdict : Called → Verdicts} {as_answer : ℕ → Answers} {as_tile : Asked → Tiles} {buffer : List ℕ}

@@ -1,14 +1,13 @@
 -- A night: a fresh ledger, then frames and releases one after the other, then the tiles, each answered as its entry's promise permits.
 use Rattle.std.specs.Prelude.{◌≡◌, List, [], ◌∷◌, map, ℕ, ◌<◌}
-use Rattle.ledger.specs.declared.Answer.{Answer}
+use Rattle.ledger.specs.Answers.{Answer}
 use Rattle.ledger.specs.Range.{unloaded}
 use Rattle.row.specs.Fresh.{freshened, Freshened}
 use Rattle.row.specs.Release.{release_refusal, released, Released}
 use Rattle.settle.specs.declared.Verdict.{Verdict}
 use Rattle.places.specs.Places.{ten_of, heard}
 use Rattle.judge.specs.Judge.{Called, call_of, Judges}
-use Rattle.tile.specs.declared.shares.Asked.{Asked}
-use Rattle.tile.specs.Tiles.{asked_of, Tiled}
+use Rattle.tile.specs.Tiles.{Asked, asked_of, Tiled}
 use Rattle.kept.specs.History.{Event, frame, release, step}
 use Rattle.flat_answers.specs.declared.FlatVerdict.{FlatVerdict}
 use Rattle.flat_answers.specs.declared.FlatTile.{FlatTile}

@@ -1,8 +1,7 @@
 -- A frame's own policing entry (document 01, step 7): the one whose SHARINDX names its meter and whose PARTITION its units.
 use Rattle.std.specs.Prelude.{◌≡◌, List, ℕ}
 use Rattle.frame.specs.Bytes.{destination_of}
-use Rattle.plan.specs.declared.enter.Entered.TheVariants.{In}
-use Rattle.plan.specs.Enter.{enter_of}
+use Rattle.plan.specs.Enter.{In, enter_of}
 use Rattle.plan.specs.Police.{policer_of}
 
 -- "k is 40 + port for destination FF:FF:FF:FF:FF:FF, else 8 × port + p", of a frame that steps 1 to 6 let in with priority p

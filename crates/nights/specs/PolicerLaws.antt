@@ -1,5 +1,5 @@
 -- What a plan tells: a drop is one of steps 1 to 8, and a course, a replica's too, is that of the frame's own policing entry.
-use Rattle.std.specs.Prelude.{◌≡◌, refl, Bool, not, List, ℕ, ◌≤◌, ltb, leb, eqb}
+use Rattle.std.specs.Prelude.{◌≡◌, refl, Bool, not, Option, Some, None, Ok, Err, List, ℕ, ◌≤◌, ltb, leb, eqb}
 use Rattle.std.proofs.Common.{sym, ◌∙◌, ap, true≢false}
 use Rattle.std.proofs.Math.Path.{subst}
 use Rattle.std.proofs.Math.Bool.{true, false, cond}
@@ -8,25 +8,17 @@ use Rattle.image.specs.Layout.{count_of}
 use Rattle.image.specs.declared.tables.Table.TheVariants.{Policing}
 use Rattle.fields.specs.Fields.{port_vlanid, vlanprio, drpuntag, ingress, sharindx, maxlen, partition}
 use Rattle.frame.specs.declared.Tag.{Tag}
-use Rattle.frame.specs.declared.Tag.TheVariants.{Untagged, Tagged}
-use Rattle.frame.specs.declared.Intake.{Intake}
-use Rattle.frame.specs.declared.Intake.TheVariants as intake
+use Rattle.frame.specs.Intake.{Intake, by_tag, intake_of}
+use Rattle.frame.specs.Intake as intake
 use Rattle.frame.specs.Bytes.{octets_of, destination_of, source_of, tag_of}
-use Rattle.frame.specs.Intake.{by_tag, intake_of}
-use Rattle.plan.specs.declared.enter.Placed.{Placed}
-use Rattle.plan.specs.declared.enter.Placed.TheVariants.{Absent, At}
-use Rattle.plan.specs.declared.enter.Entered.{Entered}
-use Rattle.plan.specs.declared.enter.Entered.TheVariants as entered
-use Rattle.plan.specs.declared.Policed.{Policed}
-use Rattle.plan.specs.declared.Policed.TheVariants.{Unmetered, TooLong, By}
+use Rattle.plan.specs.Enter.{Entered, by_place, by_intake, enter_of}
+use Rattle.plan.specs.Enter as entered
+use Rattle.plan.specs.Police.{Policed, by, policer_of, policed_of}
+use Rattle.drops.specs.declared.Dropped.TheVariants.{NotPoliced, TooLong}
 use Rattle.plan.specs.declared.Course.{Course}
-use Rattle.plan.specs.declared.Planned.{Planned}
-use Rattle.plan.specs.declared.Planned.TheVariants.{Dropped, Goes}
+use Rattle.plan.specs.Plan.{Planned, Dropped, Goes, course_of, by_policer, plan_of}
 use Rattle.plan.specs.Steps.{placed_of, outsider, kept_out}
 use Rattle.addresses.specs.Address.{barred}
-use Rattle.plan.specs.Enter.{by_place, by_intake, enter_of}
-use Rattle.plan.specs.Police.{policer_of, policed_of}
-use Rattle.plan.specs.Plan.{course_of, by_policer, plan_of}
 use Rattle.replica.specs.Replica.{by_placed, replica_plan}
 use Rattle.judge.specs.Judge.{by_entry, plan_for}
 use Rattle.nights.specs.Policer.{Polices}
@@ -53,9 +45,9 @@ module _ (image : List ℕ) (port : ℕ) (frame : List ℕ) where
       three true = lit≤ tt
       three false = tt
 
-      tagged : (t : Tag) → EarlyIntake (by_tag image port t)
-      tagged Untagged = three (not (eqb (drpuntag image port) 0))
-      tagged (Tagged at priority vlan) = tt
+      tagged : (t : Option Tag) → EarlyIntake (by_tag image port t)
+      tagged None = three (not (eqb (drpuntag image port) 0))
+      tagged (Some t) = tt
 
       two : (t : Bool) → EarlyIntake (cond t (intake.Dropped 2) (by_tag image port (tag_of frame)))
       two true = lit≤ tt
@@ -82,9 +74,9 @@ module _ (image : List ℕ) (port : ℕ) (frame : List ℕ) where
       out vlan place priority n h true = tt
       out vlan place priority n h false = h
 
-      by_place_lem : (vlan priority : ℕ) (tagged : Bool) (q : Placed) → EarlyEntry (by_place image port frame vlan priority tagged q)
-      by_place_lem vlan priority tagged Absent = lit≤ tt
-      by_place_lem vlan priority tagged (At place) =
+      by_place_lem : (vlan priority : ℕ) (tagged : Bool) (q : Option ℕ) → EarlyEntry (by_place image port frame vlan priority tagged q)
+      by_place_lem vlan priority tagged None = lit≤ tt
+      by_place_lem vlan priority tagged (Some place) =
           out vlan place priority _ (kept_out_lem vlan tagged (source_of frame) place) (eqb (kept_out image port vlan tagged (source_of frame) place) 0)
 
       by_intake_lem : (q : Intake) → EarlyIntake q → EarlyEntry (by_intake image port frame q)
@@ -92,18 +84,24 @@ module _ (image : List ℕ) (port : ℕ) (frame : List ℕ) where
       by_intake_lem (intake.Taken vlan priority tagged) h = by_place_lem vlan priority tagged (placed_of image vlan)
 
   plan : EarlyPlan (plan_for image port frame)
-  unfolding plan_for plan_of
+  unfolding plan_for plan_of policed_of
   plan = by_entry_lem (enter_of image port frame) entry
     where
-      police : (vlan place priority : ℕ) (q : Policed) → EarlyPlan (by_policer image port (destination_of frame) vlan place priority q)
-      police vlan place priority Unmetered = lit≤ tt
-      police vlan place priority TooLong = lit≤ tt
-      police vlan place priority (By k m) = tt
+      police : (vlan place priority k m : ℕ) (s t u : Bool)
+          → EarlyPlan
+          (by_policer image port (destination_of frame) vlan place priority
+          (cond s (Err NotPoliced) (cond t (Err NotPoliced) (cond u (Err TooLong) (Ok (by k m))))))
+      police vlan place priority k m true t u = lit≤ tt
+      police vlan place priority k m false true u = lit≤ tt
+      police vlan place priority k m false false true = lit≤ tt
+      police vlan place priority k m false false false = tt
 
       by_entry_lem : (q : Entered) → EarlyEntry q → EarlyPlan (by_entry image port frame q)
       by_entry_lem (entered.Dropped n) h = h
       by_entry_lem (entered.In vlan place priority) h =
-          police vlan place priority (policed_of image port priority (destination_of frame) (octets_of frame))
+          let k : ℕ = policer_of port priority (destination_of frame) in
+          police vlan place priority k (sharindx image k) (leb (count_of image Policing) k) (leb (count_of image Policing) (sharindx image k))
+          (ltb (maxlen image k) (octets_of frame))
 
   -- what a plan drops a frame with
   pub plan_drops : (n : ℕ) → plan_for image port frame ≡ Dropped n → n ≤ 8
@@ -129,9 +127,9 @@ plan_by image port frame vlan place priority =
     police : (s t u : Bool)
         → ByEntry image (policer_of port priority (destination_of frame))
         (by_policer image port (destination_of frame) vlan place priority
-        (cond s Unmetered
-        (cond t Unmetered
-        (cond u TooLong (By (policer_of port priority (destination_of frame)) (sharindx image (policer_of port priority (destination_of frame))))))))
+        (cond s (Err NotPoliced)
+        (cond t (Err NotPoliced)
+        (cond u (Err TooLong) (Ok (by (policer_of port priority (destination_of frame)) (sharindx image (policer_of port priority (destination_of frame)))))))))
     police true t u = tt
     police false true u = tt
     police false false true = tt
@@ -172,9 +170,9 @@ module _ (image : List ℕ) (port : ℕ) (frame : List ℕ) (vlan priority : ℕ
   unfolding replica_plan
   replica_by w e = subst (ByEntry image (policer_of port priority (destination_of frame))) e (go (placed_of image vlan))
     where
-      go : (p : Placed) → ByEntry image (policer_of port priority (destination_of frame)) (by_placed image port frame vlan priority p)
-      go Absent = tt
-      go (At place) = plan_by image port frame vlan place priority
+      go : (p : Option ℕ) → ByEntry image (policer_of port priority (destination_of frame)) (by_placed image port frame vlan priority p)
+      go None = tt
+      go (Some place) = plan_by image port frame vlan place priority
 
 -- ---- where a frame is dropped at 7 or 8 so is each replica, or at 4
 
@@ -188,9 +186,8 @@ unfolding plan_of
 same_police image port frame priority vlan place other at = go (policed_of image port priority (destination_of frame) (octets_of frame))
   where
     go : (q : Policed) → is_goes (by_policer image port (destination_of frame) vlan place priority q) ≡ is_goes (by_policer image port (destination_of frame) other at priority q)
-    go Unmetered = refl
-    go TooLong = refl
-    go (By k m) = refl
+    go (Err d) = refl
+    go (Ok p) = refl
 
 pub dropped_alike : (image : List ℕ) (port : ℕ) (frame : List ℕ) (vlan place priority other n : ℕ) (w : Course)
     → enter_of image port frame ≡ entered.In vlan place priority
@@ -203,6 +200,6 @@ dropped_alike image port frame vlan place priority other n w i d e = go (placed_
     own : plan_of image port frame vlan place priority ≡ Dropped n
     own = ap (by_entry image port frame) (sym i) ∙ d
 
-    go : (p : Placed) → by_placed image port frame other priority p ≡ Goes w → ⊥
-    go Absent q = true≢false (ap is_goes (sym q))
-    go (At at) q = true≢false (ap is_goes (sym q) ∙ sym (same_police image port frame priority vlan place other at) ∙ ap is_goes own)
+    go : (p : Option ℕ) → by_placed image port frame other priority p ≡ Goes w → ⊥
+    go None q = true≢false (ap is_goes (sym q))
+    go (Some at) q = true≢false (ap is_goes (sym q) ∙ sym (same_police image port frame priority vlan place other at) ∙ ap is_goes own)

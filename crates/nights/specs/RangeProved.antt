@@ -1,9 +1,8 @@
 -- A ledger that only permitted calls touched, from a fresh one on, is never refused with 39.
-use Rattle.std.specs.Prelude.{◌≡◌, false, List, ℕ}
+use Rattle.std.specs.Prelude.{◌≡◌, false, List, ℕ, Ok}
 use Rattle.std.proofs.Common.{sym, ◌∙◌, ap}
 use Rattle.image.specs.Layout.{image_in}
-use Rattle.ledger.specs.declared.Answer.{Answer}
-use Rattle.ledger.specs.declared.Answer.TheVariants.{Done}
+use Rattle.ledger.specs.Answers.{Answer}
 use Rattle.ledger.specs.Range.{out_of_range}
 use Rattle.row.specs.Fresh.{Freshened}
 use Rattle.settle.specs.declared.Verdict.{Verdict}
@@ -14,7 +13,7 @@ use Rattle.flat_frames.specs.Frames.{FreshensFlat}
 use Rattle.nights.specs.Nights.{Heard, Said, RunOf, RunFlat}
 use Rattle.nights.specs.NightLaws.{as_defined, as_defined_flat, not_refused, fresh_run_is}
 
-pub own_ledger_never_39 : (buffer : List ℕ) (es : List Event) (g : List ℕ) (said : List (Said (Heard Verdict) Answer)) (z : List ℕ) → Freshened buffer Done g
+pub own_ledger_never_39 : (buffer : List ℕ) (es : List Event) (g : List ℕ) (said : List (Said (Heard Verdict) Answer)) (z : List ℕ) → Freshened buffer (Ok tt) g
     → RunOf buffer g es said z
     → out_of_range (image_in buffer) z ≡ false
 own_ledger_never_39 buffer es g said z f r =

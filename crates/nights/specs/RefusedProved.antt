@@ -1,12 +1,10 @@
 -- Demand 1, of frames, releases and ledgers: what a refused call leaves, here and at the entries for C and Rust.
-use Rattle.std.specs.Prelude.{◌≡◌, true, List, ℕ, length}
+use Rattle.std.specs.Prelude.{◌≡◌, true, List, ℕ, length, Ok, Err}
 use Rattle.std.proofs.Math.Path.{refl, sym}
 use Rattle.std.proofs.Common.{◌∙◌, ap, arith}
 use Rattle.laws.specs.Chain.{at_zero, not_zero}
 use Rattle.image.specs.Layout.{image_in}
-use Rattle.ledger.specs.declared.Answer.{Answer}
-use Rattle.ledger.specs.declared.Answer.TheVariants as answer
-use Rattle.ledger.specs.Answers.{answer_of, number_of}
+use Rattle.ledger.specs.Answers.{Answer, answer_of, number_of}
 use Rattle.ledger.specs.AnswersLaws.{numbered}
 use Rattle.ledger.specs.Range.{out_of_range, unloaded}
 use Rattle.row.specs.Fresh.{fresh_of, no_ledger, freshened, Freshened}
@@ -69,13 +67,13 @@ module _ (buffer g : List ℕ) (port time : ℕ) (frame : List ℕ) where
 
 -- ---- a refusal's number
 -- an answer that is a refusal is its number's
-pub refused_number : (m n : ℕ) → answer_of m ≡ answer.Refused n → m ≡ n
+pub refused_number : (m n : ℕ) → answer_of m ≡ Err n → m ≡ n
 refused_number m n e = sym (numbered m) ∙ ap number_of e
 
 -- which is not 0
-refused_not_done : (m n : ℕ) → answer_of m ≡ answer.Refused n → m ≡ 0 → ⊥
+refused_not_done : (m n : ℕ) → answer_of m ≡ Err n → m ≡ 0 → ⊥
 refused_not_done m n e z =
-    let d : answer.Done ≡ answer_of m = at_zero m m answer.Done answer.Done (answer.Refused m) refl z refl in
+    let d : (Ok tt) ≡ answer_of m = at_zero m m (Ok tt) (Ok tt) (Err m) refl z refl in
     let f : ◌≡◌ {A = ℕ} 0 1 = cc in
     omega arith
 
@@ -86,7 +84,7 @@ module _ (buffer g : List ℕ) (partition : ℕ) where
   given_nothing h = sym (not_zero (release_refusal buffer g partition) (release_refusal buffer g partition) g (given_to g partition) g refl h refl)
 
   -- a refused release gives nothing back
-  pub refused_release_keeps_the_row : (n : ℕ) (r : Answer) (after : List ℕ) → Released buffer g partition r after → r ≡ answer.Refused n → after ≡ g
+  pub refused_release_keeps_the_row : (n : ℕ) (r : Answer) (after : List ℕ) → Released buffer g partition r after → r ≡ Err n → after ≡ g
   refused_release_keeps_the_row n r after p e = p.row ∙ given_nothing (refused_not_done (release_refusal buffer g partition) n (sym p.answer ∙ e))
 
   -- and at the entry for C and Rust
@@ -102,7 +100,7 @@ module _ (buffer : List ℕ) where
       (e, λ image. ap (out_of_range image) e ∙ refused_everywhere image)
 
   -- a refused fresh ledger is none, never what stood in the row
-  pub refused_ledger_is_none : (n : ℕ) (r : Answer) (after : List ℕ) → Freshened buffer r after → r ≡ answer.Refused n
+  pub refused_ledger_is_none : (n : ℕ) (r : Answer) (after : List ℕ) → Freshened buffer r after → r ≡ Err n
       → (after ≡ no_ledger) × ((image : List ℕ) → out_of_range image after ≡ true)
   refused_ledger_is_none n r after p e = none after p.row (refused_not_done (unloaded buffer) n (sym p.answer ∙ e))
 

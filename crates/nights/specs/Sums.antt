@@ -1,5 +1,5 @@
 -- Plain sums over a run's events and what each was answered: a port's frames, drops, octets and dropped octets.
-use Rattle.std.specs.Prelude.{◌≡◌, ◌↔◌, false, cond, List, [], ◌∷◌, map, ℕ, ◌+◌, ◌%◌, eqb, pos, Float, length, get_or}
+use Rattle.std.specs.Prelude.{◌≡◌, ◌↔◌, false, cond, List, [], ◌∷◌, map, ℕ, ◌+◌, ◌%◌, eqb, pos, Float, length, get_or, Ok}
 use Rattle.std.specs.Float.{binary64}
 use Rattle.std.specs.Float.Ieee.{div, of_int, is_nan, to_bits}
 use Rattle.spend.specs.declared.Counts.{Counts}
@@ -7,9 +7,7 @@ use Rattle.settle.specs.declared.Verdict.{Verdict}
 use Rattle.settle.specs.declared.Verdict.TheVariants.{Refused, Drop, Sent}
 use Rattle.tile.specs.declared.shares.Tile.{Tile}
 use Rattle.tile.specs.declared.shares.Tile.TheVariants.{NoFrames, Shares}
-use Rattle.tile.specs.declared.shares.Asked.{Asked}
-use Rattle.tile.specs.declared.shares.Asked.TheVariants as asked
-use Rattle.tile.specs.Tiles.{tile_of}
+use Rattle.tile.specs.Tiles.{Asked, tile_of}
 use Rattle.kept.specs.History.{Event, frame, release}
 use Rattle.flat_answers.specs.declared.FlatVerdict.{FlatVerdict}
 use Rattle.flat_answers.specs.declared.FlatTile.{FlatTile}
@@ -101,15 +99,15 @@ divided part whole = div binary64 (of_int binary64 (pos part)) (of_int binary64 
 -- a port's tile t by its counts c
 pub record Shows (c : Counts) (t : Asked) : Type 0 where
   -- it is their tile, and no refusal
-  pub tile : t ≡ asked.Shown (tile_from c)
+  pub tile : t ≡ Ok (tile_from c)
   -- "A port with no frames shows no share", and no other
-  pub no_frames : (t ≡ asked.Shown NoFrames) ↔ (c.frames ≡ 0)
+  pub no_frames : (t ≡ Ok NoFrames) ↔ (c.frames ≡ 0)
   -- "The frame share is drops as f64 over frames as f64, one division; the octet share likewise"
-  pub shares : (c.frames ≡ 0 → ⊥) → t ≡ asked.Shown (Shares (divided c.drops c.frames) (divided c.dropped c.octets))
+  pub shares : (c.frames ≡ 0 → ⊥) → t ≡ Ok (Shares (divided c.drops c.frames) (divided c.dropped c.octets))
   -- both are numbers
   pub real : (c.frames ≡ 0 → ⊥) → (is_nan (divided c.drops c.frames) ≡ false) × (is_nan (divided c.dropped c.octets) ≡ false)
   -- "With frames and no drops both are +0"
-  pub perfect : (c.frames ≡ 0 → ⊥) → c.drops ≡ 0 → (x y : Float) × (t ≡ asked.Shown (Shares x y)) × (to_bits binary64 x ≡ 0) × (to_bits binary64 y ≡ 0)
+  pub perfect : (c.frames ≡ 0 → ⊥) → c.drops ≡ 0 → (x y : Float) × (t ≡ Ok (Shares x y)) × (to_bits binary64 x ≡ 0) × (to_bits binary64 y ≡ 0)
 
 -- and at the entry for C and Rust: kind 2 for no-frames, kind 3 with "the exact bits of that division"
 pub record ShowsFlat (c : Counts) (t : FlatTile) : Type 0 where

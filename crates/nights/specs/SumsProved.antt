@@ -1,5 +1,5 @@
 -- Demand 2, of tiles: over any permitted night a port's cells are the sums over its verdicts, its tile is theirs, and a port with no frames shows no share.
-use Rattle.std.specs.Prelude.{◌≡◌, refl, Bool, true, cond, List, [], ◌∷◌, ℕ, ◌<◌, ◌≤◌, eqb, pos, Float}
+use Rattle.std.specs.Prelude.{◌≡◌, refl, Bool, true, cond, List, [], ◌∷◌, ℕ, ◌<◌, ◌≤◌, eqb, pos, Float, Ok}
 use Rattle.std.proofs.Common.{sym, ◌∙◌, subst, le_of_suc-le-suc, arith}
 use Rattle.std.proofs.Math.Path.{ap}
 use Rattle.std.proofs.Math.Bool.{false}
@@ -9,8 +9,7 @@ use borrow.Author.Tests.{le-ltb, ne_eqb, eqb-true}
 use Rattle.laws.specs.Chain.{zero_first, zero_rest}
 use Rattle.image.specs.Layout.{image_in}
 use Rattle.image.specs.Loaded.{too_short, not_loaded}
-use Rattle.ledger.specs.declared.Answer.{Answer}
-use Rattle.ledger.specs.declared.Answer.TheVariants.{Done}
+use Rattle.ledger.specs.Answers.{Answer}
 use Rattle.ledger.specs.Stands.{Counted}
 use Rattle.ledger.specs.Range.{unloaded}
 use Rattle.row.specs.Fresh.{fresh_of, Freshened}
@@ -18,9 +17,7 @@ use Rattle.spend.specs.declared.Counts.{Counts}
 use Rattle.settle.specs.declared.Verdict.{Verdict}
 use Rattle.settle.specs.Note.{counts_at}
 use Rattle.tile.specs.declared.shares.Tile.TheVariants.{NoFrames, Shares}
-use Rattle.tile.specs.declared.shares.Asked.{Asked}
-use Rattle.tile.specs.declared.shares.Asked.TheVariants.{Shown}
-use Rattle.tile.specs.Tiles.{share_of, tile_of, asked_of, Tiled, bits_of}
+use Rattle.tile.specs.Tiles.{Asked, share_of, tile_of, asked_of, Tiled, bits_of}
 use Rattle.tile.specs.Shares.{perfect, share_real}
 use Rattle.judge.specs.Judge.{Called}
 use Rattle.kept.specs.Kept.{Kept}
@@ -40,7 +37,7 @@ use Rattle.nights.specs.SumLaws.{same_kind, counts_are_sums, few}
 -- what is known of port p's counts c in row z
 record Known (buffer z : List ℕ) (p : ℕ) (c : Counts) : Type 0 where
   counts : counts_at z p ≡ c
-  asked : asked_of buffer z p ≡ Shown (tile_from c)
+  asked : asked_of buffer z p ≡ Ok (tile_from c)
   range : Counted c.frames c.drops c.octets c.dropped
   few : c.frames ≤ 4294967295
 
@@ -118,10 +115,10 @@ module _ (buffer z : List ℕ) (p : ℕ) (c : Counts) (k : Known buffer z p c) w
       let e = q ∙ k.asked in
       record {
         tile = e;
-        no_frames = (λ n. kind_two (ap (λ (x : Asked). (flat_tile x).kind) (sym e ∙ n)), λ n. e ∙ ap Shown (no_frames n));
-        shares = λ h. e ∙ ap Shown (one_division h);
+        no_frames = (λ n. kind_two (ap (λ (x : Asked). (flat_tile x).kind) (sym e ∙ n)), λ n. e ∙ ap Ok (no_frames n));
+        shares = λ h. e ∙ ap Ok (one_division h);
         real = real;
-        perfect = λ h n. (fin false 0 (pos 0), fin false 0 (pos 0), e ∙ ap Shown (plus_zero h n), plus_zero_bits, plus_zero_bits);
+        perfect = λ h n. (fin false 0 (pos 0), fin false 0 (pos 0), e ∙ ap Ok (plus_zero h n), plus_zero_bits, plus_zero_bits);
       }
 
   asked_shows_flat : (t : FlatTile) → t ≡ flat_tile (asked_of buffer z p) → ShowsFlat c t
@@ -140,7 +137,7 @@ module _ (buffer z : List ℕ) (p : ℕ) (c : Counts) (k : Known buffer z p c) w
       bits x h = rw h
 
 -- ---- at Rattle's entries
-module _ (buffer : List ℕ) (es : List Event) (g : List ℕ) (said : List (Said (Heard Verdict) Answer)) (z : List ℕ) (fresh : Freshened buffer Done g)
+module _ (buffer : List ℕ) (es : List Event) (g : List ℕ) (said : List (Said (Heard Verdict) Answer)) (z : List ℕ) (fresh : Freshened buffer (Ok tt) g)
     (run : RunOf buffer g es said z) (p : ℕ) (inside : p < 5) where
   known_of : Known buffer z p (sums_of (own_kind kind_of) p es said)
   known_of = run_known buffer (not_refused buffer g fresh) p inside (as_defined buffer) (own_kind kind_of) (λ c. refl) fresh run
@@ -169,7 +166,7 @@ module _ (buffer : List ℕ) (es : List Event) (g : List ℕ) (said : List (Said
 
 -- ---- a whole night whose fresh ledger was not refused: each of the five tiles shows its port's sums
 pub night_shows_the_sums : (buffer : List ℕ) (es : List Event) (g : List ℕ) (said : List (Said (Heard Verdict) Answer)) (z : List ℕ) (tile : ℕ → Asked)
-    → NightOf buffer es Done g said z tile
+    → NightOf buffer es (Ok tt) g said z tile
     → (p : ℕ)
     → p < 5
     → Shows (sums_of (own_kind kind_of) p es said) (tile p)

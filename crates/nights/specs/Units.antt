@@ -1,12 +1,9 @@
 -- Plain sums over a run's events and what each was answered: the units of a partition that sent frames and replicas took and releases gave back.
-use Rattle.std.specs.Prelude.{Bool, true, false, cond, List, [], ◌∷◌, ℕ, ◌+◌, eqb}
+use Rattle.std.specs.Prelude.{Bool, true, false, cond, List, [], ◌∷◌, ℕ, ◌+◌, eqb, Ok, Err}
 use Rattle.fields.specs.Fields.{partition}
-use Rattle.ledger.specs.declared.Answer.{Answer}
-use Rattle.ledger.specs.declared.Answer.TheVariants.{Refused, Done}
+use Rattle.ledger.specs.Answers.{Answer}
 use Rattle.frame.specs.Bytes.{destination_of}
-use Rattle.plan.specs.declared.enter.Entered.{Entered}
-use Rattle.plan.specs.declared.enter.Entered.TheVariants.{Dropped, In}
-use Rattle.plan.specs.Enter.{enter_of}
+use Rattle.plan.specs.Enter.{Entered, Dropped, In, enter_of}
 use Rattle.plan.specs.Police.{policer_of}
 use Rattle.kept.specs.History.{Event, frame, release}
 use Rattle.nights.specs.Nights.{Said, verdict, answer}
@@ -14,8 +11,8 @@ use Rattle.nights.specs.Sums.{Kind, refused, dropped, sent, sum_over}
 
 -- a release was done
 abbrev pub done_of : Answer → Bool
-done_of (Refused n) = false
-done_of Done = true
+done_of (Err n) = false
+done_of (Ok done) = true
 
 -- and for C and Rust by its number, 0
 abbrev pub done_flat : ℕ → Bool

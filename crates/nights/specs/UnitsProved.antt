@@ -1,13 +1,11 @@
 -- Demand 2, of units: over any permitted run from a fresh ledger, a partition's units left are its configured space less those out.
-use Rattle.std.specs.Prelude.{◌≡◌, refl, Bool, true, false, cond, List, [], ◌∷◌, ◌++◌, map, ℕ, ◌+◌, ◌-◌, ◌<◌, ◌≤◌, ltb, eqb}
+use Rattle.std.specs.Prelude.{◌≡◌, refl, Bool, true, false, cond, List, [], ◌∷◌, ◌++◌, map, ℕ, ◌+◌, ◌-◌, ◌<◌, ◌≤◌, ltb, eqb, Ok, Err}
 use Rattle.std.proofs.Common.{sym, ◌∙◌, ap, subst, ⊎_elim, add-zero, zero-add, add_assoc, arith, get_or-set_same, eq-eqb, ne_eqb, eqb-true, ltb-false}
 use Rattle.std.proofs.Math.ListN.{length, length-set}
 use Rattle.image.specs.Layout.{image_in}
 use Rattle.image.specs.Sound.{Sound}
 use Rattle.fields.specs.Fields.{part_spc, partition}
-use Rattle.ledger.specs.declared.Answer.{Answer}
-use Rattle.ledger.specs.declared.Answer.TheVariants as answer
-use Rattle.ledger.specs.Answers.{answer_of}
+use Rattle.ledger.specs.Answers.{Answer, answer_of}
 use Rattle.ledger.specs.Range.{unloaded}
 use Rattle.ledger.specs.Row.{units, many, cell_count, cell, put}
 use Rattle.ledger.proofs.Laws.{cells, other_place}
@@ -15,13 +13,12 @@ use Rattle.row.specs.Fresh.{fresh_of, Freshened}
 use Rattle.row.specs.Release.{release_refusal, given_to, released}
 use Rattle.row.specs.ReleaseLaws.{releasable}
 use Rattle.spend.specs.declared.Meter.{Meter}
-use Rattle.spend.specs.declared.Spent.{Spent}
+use Rattle.spend.specs.Spend.{Spent, spent, units_of, paid_of, credit_at, spent_of}
 use Rattle.spend.specs.Meter.{cost}
-use Rattle.spend.specs.Spend.{spent, units_of, paid_of, credit_at, spent_of}
 use Rattle.frame.specs.Bytes.{octets_of}
 use Rattle.plan.specs.declared.Course.{Course}
-use Rattle.plan.specs.declared.Planned.TheVariants.{Goes}
-use Rattle.plan.specs.declared.enter.Entered.TheVariants as entered
+use Rattle.plan.specs.Plan.{Goes}
+use Rattle.plan.specs.Enter as entered
 use Rattle.plan.specs.Enter.{enter_of}
 use Rattle.plan.specs.Sane.{Sane}
 use Rattle.settle.specs.declared.Verdict.{Verdict}
@@ -29,7 +26,7 @@ use Rattle.settle.specs.declared.Verdict.TheVariants.{Drop, Sent}
 use Rattle.settle.specs.Settle.{meter_of, held_at, Judged}
 use Rattle.settle.specs.Note.{noted}
 use Rattle.settle.specs.Noted.{units_kept}
-use Rattle.tile.specs.declared.shares.Asked.{Asked}
+use Rattle.tile.specs.Tiles.{Asked}
 use Rattle.places.specs.Places.{ten_of}
 use Rattle.replica.specs.Replica.{replica_plan}
 use Rattle.judge.specs.Judge.{plan_for, judge_of, Called, call_of}
@@ -239,7 +236,7 @@ module _ {Verdicts Answers Tiles : Type 0} {as_verdict : Called → Verdicts} {a
       ∙ ap (λ (x : ℕ). x + returned done j es said) (fresh_units (image_in buffer) j inside)
 
 -- over any permitted run from a fresh ledger, the units left and those taken are PART_SPC and those given back: what is left is the space less what is out
-pub units_left_are_the_space_less_those_out : (buffer : List ℕ) (es : List Event) (g : List ℕ) (said : List (Said (Heard Verdict) Answer)) (z : List ℕ) → Freshened buffer answer.Done g
+pub units_left_are_the_space_less_those_out : (buffer : List ℕ) (es : List Event) (g : List ℕ) (said : List (Said (Heard Verdict) Answer)) (z : List ℕ) → Freshened buffer (Ok tt) g
     → RunOf buffer g es said z
     → (j : ℕ)
     → j < many units
@@ -250,7 +247,7 @@ units_left_are_the_space_less_those_out buffer es g said z fresh run j h =
     zero_done : (n : ℕ) → done_of (answer_of n) ≡ eqb n 0
     zero_done n = by (eqb n 0)
       where
-        by : (t : Bool) → done_of (cond t answer.Done (answer.Refused n)) ≡ t
+        by : (t : Bool) → done_of (cond t (Ok tt) (Err n)) ≡ t
         by true = refl
         by false = refl
 

@@ -1,14 +1,7 @@
 -- A write inside a block that brings data of this block alone: its tests, and what it leaves.
-use mathlib.Core.Path.{◌≡◌, refl, sym, ◌∙◌, ap, subst}
-use mathlib.Core.Bool.{Bool, true, false, cond}
-use mathlib.Core.List.{List}
-use Prim.Native.Nat.{ℕ, ◌+◌, ◌-◌, ◌<◌, ◌≤◌}
-use native.Mathlib.Nat.{mul_comm}
-use native.Mathlib.Omega.{arith}
-use lib.Dec.{ltb}
-use lib.ListN.{length}
-use lib.Seq.{sets}
-use borrow.Author.Tests.{ltb-false}
+use Rattle.std.proofs.Common.{◌≡◌, refl, sym, ◌∙◌, ap, subst, Bool, true, false, cond, true≢false, List, ℕ, zero, suc, ◌+◌, ◌-◌, ◌<◌, ◌≤◌, mul_comm, zero-lt-suc, arith, ltb, length, ltb-false}
+use Rattle.std.specs.Prelude.{Some, None}
+use Rattle.std.proofs.lemmas.List.Edits.{sets}
 use Rattle.crc.specs.Crc.{words_in}
 use Rattle.image.specs.Layout.{image_words, entry_words, image_in}
 use Rattle.image.specs.Loaded.{over_limit}
@@ -24,7 +17,6 @@ use Rattle.stream.specs.declared.Phase.{Phase}
 use Rattle.stream.specs.declared.Phase.TheVariants.{Data}
 use Rattle.one_block.specs.Data.{data_place}
 use Rattle.placing.proofs.RefusalWrites.{wrote_run, opened_begun}
-use Rattle.placing.proofs.RefusalLaws.{some_word}
 use Rattle.one_block.proofs.Laws.{data_run}
 
 -- ---- a place in the image: each test has failed
@@ -36,21 +28,26 @@ record Passed (buffer : List ℕ) (t : Table) (placed due n r : ℕ) : Type 0 wh
   room : beyond (image_in buffer) t placed due ≡ false
   is : r ≡ place_in buffer t placed
 
-all_failed : (a b c d : Bool) (p : ℕ) → cond a image_words (cond b image_words (cond c image_words (cond d image_words p))) < image_words
-    → (a ≡ false) × (b ≡ false) × (c ≡ false) × (d ≡ false) × (cond a image_words (cond b image_words (cond c image_words (cond d image_words p))) ≡ p)
-all_failed true b c d p h = absurd (omega arith)
-all_failed false true c d p h = absurd (omega arith)
-all_failed false false true d p h = absurd (omega arith)
-all_failed false false false true p h = absurd (omega arith)
-all_failed false false false false p h = (refl, refl, refl, refl, refl)
+all_failed : (a b c d : Bool) (p r : ℕ) → Some r ≡ cond a None (cond b None (cond c None (cond d None (Some p))))
+    → (a ≡ false) × (b ≡ false) × (c ≡ false) × (d ≡ false) × (r ≡ p)
+all_failed true b c d p r h = absurd (cc)
+all_failed false true c d p r h = absurd (cc)
+all_failed false false true d p r h = absurd (cc)
+all_failed false false false true p r h = absurd (cc)
+all_failed false false false false p r h = (refl, refl, refl, refl, cc)
 
-passed : (buffer : List ℕ) (t : Table) (placed due n r : ℕ) → r ≡ data_place buffer t placed due n → r < image_words → Passed buffer t placed due n r
+passed : (buffer : List ℕ) (t : Table) (placed due n r : ℕ) → Some r ≡ data_place buffer t placed due n → Passed buffer t placed due n r
 unfolding data_place
-passed buffer t placed due n r e h =
-    let q = all_failed (outside n) (ltb due n) (over_limit (image_in buffer)) (beyond (image_in buffer) t placed due) (place_in buffer t placed) (subst (λ (x : ℕ). x < image_words) e h) in
-    record { some = q.0; fits = ltb-false due n q.1; within = q.2; room = q.3; is = e ∙ q.4 }
+passed buffer t placed due n r e =
+    let q = all_failed (outside n) (ltb due n) (over_limit (image_in buffer)) (beyond (image_in buffer) t placed due) (place_in buffer t placed) r e in
+    record { some = q.0; fits = ltb-false due n q.1; within = q.2; room = q.3; is = q.4 }
 
 -- ---- what the write leaves
+
+-- 32's test failed: there is a word
+some_word : (n : ℕ) → outside n ≡ false → 0 < n
+some_word zero h = absurd (true≢false h)
+some_word (suc n) h = zero-lt-suc n
 
 pub record DataWrite (l : Load) (buffer words : List ℕ) (place : ℕ) : Type 0 where
   pub some : 0 < length words
@@ -64,9 +61,9 @@ pub record DataWrite (l : Load) (buffer words : List ℕ) (place : ℕ) : Type 0
   }
 
 module _ (l : Load) (buffer words : List ℕ) (place : ℕ) (whole : image_words ≤ length buffer) (in_block : l.phase ≡ Data)
-    (is : place ≡ data_place buffer l.table l.placed l.due (length words)) (image : place < image_words) where
+    (is : Some place ≡ data_place buffer l.table l.placed l.due (length words)) where
   passes : Passed buffer l.table l.placed l.due (length words) place
-  passes = passed buffer l.table l.placed l.due (length words) place is image
+  passes = passed buffer l.table l.placed l.due (length words) place is
 
   undamaged : damaged l (image_in buffer) ≡ false
   undamaged =

@@ -1,10 +1,6 @@
 -- What a run of data words leaves, as the machine says it.
-use mathlib.Core.Path.{◌≡◌, sym, ◌∙◌, ap, subst}
-use mathlib.Core.List.{List, [], ◌∷◌}
-use Prim.Native.Nat.{ℕ, ◌+◌, ◌-◌, ◌<◌, ◌≤◌}
-use native.Mathlib.Nat.{not-suc-le-zero}
-use lib.ListN.{length}
-use lib.Seq.{sets}
+use Rattle.std.proofs.Common.{◌≡◌, sym, ◌∙◌, ap, subst, List, [], ◌∷◌, ℕ, ◌+◌, ◌-◌, ◌<◌, ◌≤◌, not-suc-le-zero, length}
+use Rattle.std.proofs.lemmas.List.Edits.{sets}
 use Rattle.crc.specs.Crc.{words_in}
 use Rattle.image.specs.Layout.{entry_words}
 use Rattle.stream.specs.Machine.{at, filling, place_in, step_in, step, run}

@@ -17,25 +17,20 @@ use image::tables::Table;
 use placing::refusal;
 use stream::{Load, states};
 
-// Where a write's n words go inside a block, where they are data of this block alone and no test refuses them; else behind the image.
-pub fn data_place(image: &[u32], table: Table, placed: usize, due: usize, n: usize) -> usize
+// Where a write's n words go inside a block, where they are data of this block alone and no test refuses them.
+#[tactic(auto, unfolding(crate::specs::Data::data_place))]
+pub fn data_place(image: &[u32], table: Table, placed: usize, due: usize, n: usize) -> Option<usize>
     requires { image_words ≤ length image.now }
     ensures { result ≡ data_place image.now table placed due n }
 {
-    if refusal::outside(n) {
-        return image::IMAGE_WORDS;
-    }
-    if due < n {
-        return image::IMAGE_WORDS;
-    }
-    if loaded::over_limit(image) {
-        return image::IMAGE_WORDS;
+    if refusal::outside(n) || due < n || loaded::over_limit(image) {
+        return None;
     }
     let room = placing::room_of(image, table);
     if refusal::passes(room.left, placed, due) {
-        return image::IMAGE_WORDS;
+        return None;
     }
-    room.place + placed
+    Some(room.place + placed)
 }
 
 // Words into the image, one behind the other.
@@ -43,11 +38,7 @@ pub fn copy(image: &mut [u32], place: usize, words: &[u32])
     requires { place + length words.now ≤ length image.old }
     ensures { image.new ≡ sets image.old place words.now }
 {
-    let mut i: usize = 0;
-    while i < words.len() {
-        image[place + i] = words[i];
-        i += 1;
-    }
+    image[place..place + words.len()].copy_from_slice(words);
 }
 
 // A run of data words, no more than are due, whose sums are known.
@@ -57,15 +48,12 @@ pub fn stored(image: &mut [u32], load: Load, words: &[u32], sums: Both) -> Load
     requires block_value { (sums.block ≡ words_in load.block words.now) × (sums.stream ≡ words_in load.stream words.now) }
     ensures { Leaves (run (at load image.old) words.now) result image.new }
 {
-    let table = load.table;
-    let placed = load.placed;
-    let due = load.due;
-    let place = placing::place_of(image, table, placed, due);
+    let place = placing::place_of(image, load.table, load.placed, load.due);
     copy(image, place, words);
     states::filling(
-        table,
-        placed + words.len(),
-        due - words.len(),
+        load.table,
+        load.placed + words.len(),
+        load.due - words.len(),
         sums.stream,
         sums.block,
     )

@@ -30,7 +30,7 @@ laid_snoc [] v = append_nil (ten_of v)
 laid_snoc (w ∷ vs) v = ap (λ (r : List ℕ). ten_of w ++ r) (laid_snoc vs v) ∙ sym (append_assoc (ten_of w) (laid vs) (ten_of v))
 
 -- numbers put behind a front stand there, and what is behind them stays
-put_behind : (front rest xs : List ℕ) (at i : ℕ) → at + i ≡ length front → length xs ≤ length rest
+pub put_behind : (front rest xs : List ℕ) (at i : ℕ) → at + i ≡ length front → length xs ≤ length rest
     → put_from (front ++ rest) at i xs ≡ front ++ (xs ++ drop (length xs) rest)
 put_behind front rest [] at i e h = refl
 put_behind front [] (x ∷ xs) at i e h = absurd (omega arith)

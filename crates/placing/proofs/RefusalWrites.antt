@@ -1,10 +1,5 @@
--- A write by the number of its three tests: refused, or let by and run. Every `write` rests on these.
-use mathlib.Core.Path.{◌≡◌, refl, sym, ◌∙◌, ap}
-use mathlib.Core.Bool.{Bool, true, false, cond, true≢false}
-use mathlib.Core.List.{List}
-use Prim.Native.Nat.{ℕ, ◌≤◌}
-use lib.ListN.{length}
-use borrow.Author.Tests.{le-ltb}
+-- A write by its three tests: refused, or let by and run. Every `write` rests on these.
+use Rattle.std.proofs.Common.{◌≡◌, refl, sym, ◌∙◌, ap, Bool, true, false, cond, true≢false, List, ℕ, ◌≤◌, length, le-ltb}
 use Rattle.image.specs.SoundLaws.{has_room}
 use Rattle.laws.specs.Chain.{hit, pass, zero_first, zero_rest}
 use Rattle.image.specs.Layout.{image_words, image_in, cleared}
@@ -16,6 +11,9 @@ use Rattle.stream.specs.declared.Load.{Load}
 use Rattle.stream.specs.Answers.{said_of}
 use Rattle.stream.specs.Leaves.{Leaves, Writes}
 use Rattle.placing.specs.Refusal.{write_refusal}
+use Rattle.placing.specs.Refused.{number_of}
+use Rattle.placing.specs.declared.refusal.Refusal.{Refusal}
+use Rattle.placing.specs.declared.refusal.Refusal.TheVariants.{TooShort, Damaged, Outside}
 use Rattle.stream.specs.declared.states.Wrote.{Wrote}
 use Rattle.stream.specs.Fine.{Fine, Roomy}
 use Rattle.stream.specs.FineLaws.{undamaged_fine, cleared_fine}
@@ -47,9 +45,15 @@ refused l buffer ws n e ne = go (too_short buffer) (damaged l (image_in buffer))
     go false false true q = ap (λ (x : ℕ). untouched x l buffer) q
     go false false false q = absurd (ne q)
 
-pub writes_refused : (l : Load) (buffer ws : List ℕ) (n : ℕ) (r : Wrote) → n ≡ write_refusal l buffer (length ws) → (n ≡ 0 → ⊥) → r.answer ≡ Refused n → r.load ≡ l
-    → Writes l buffer ws r buffer
-writes_refused l buffer ws n r e ne a s = wrote_as l buffer ws buffer r (untouched n l buffer) (refused l buffer ws n e ne) a s refl
+some_number : (refusal : Refusal) → number_of refusal ≡ 0 → ⊥
+some_number TooShort e = cc
+some_number Damaged e = cc
+some_number Outside e = cc
+
+pub writes_refused : (l : Load) (buffer ws : List ℕ) (refusal : Refusal) (n : ℕ) (r : Wrote) → number_of refusal ≡ write_refusal l buffer (length ws)
+    → n ≡ number_of refusal → r.answer ≡ Refused n → r.load ≡ l → Writes l buffer ws r buffer
+writes_refused l buffer ws refusal n r e q a s =
+    wrote_as l buffer ws buffer r (untouched n l buffer) (refused l buffer ws n (q ∙ e) (λ z. some_number refusal (sym q ∙ z))) a s refl
 
 -- ---- let by
 
@@ -58,10 +62,10 @@ pub record LetBy (l : Load) (buffer ws : List ℕ) : Type 0 where
   pub undamaged : damaged l (image_in buffer) ≡ false
   pub some : outside (length ws) ≡ false
 
-pub let_by : (l : Load) (buffer ws : List ℕ) (n : ℕ) → n ≡ write_refusal l buffer (length ws) → n ≡ 0 → LetBy l buffer ws
+pub let_by : (l : Load) (buffer ws : List ℕ) → 0 ≡ write_refusal l buffer (length ws) → LetBy l buffer ws
 unfolding write_refusal
-let_by l buffer ws n e z =
-    let first : ◌≡◌ {A = ℕ} (cond (too_short buffer) 31 (cond (damaged l (image_in buffer)) 30 (cond (outside (length ws)) 32 0))) 0 = sym e ∙ z in
+let_by l buffer ws e =
+    let first : ◌≡◌ {A = ℕ} (cond (too_short buffer) 31 (cond (damaged l (image_in buffer)) 30 (cond (outside (length ws)) 32 0))) 0 = sym e in
     let second = zero_rest (too_short buffer) 30 _ first in
     record {
       whole = has_room buffer (too_short buffer) refl (zero_first (too_short buffer) 30 _ first);
@@ -82,12 +86,9 @@ writes_run l buffer ws after r b a v =
 
 -- ---- what it runs on
 
--- a begun load runs on its own buffer, a fresh one on the cleared
+-- a begun load runs on its own buffer
 pub opened_begun : (l : Load) (buffer : List ℕ) (b : Bool) → b ≡ begun l.phase → b ≡ true → at l buffer ≡ opened l buffer
 opened_begun l buffer b e h = ap (λ (x : List ℕ). at l x) (hit b _ _ _ e h)
-
-pub opened_fresh : (l : Load) (buffer : List ℕ) (b : Bool) → b ≡ begun l.phase → b ≡ false → at l (cleared buffer) ≡ opened l buffer
-opened_fresh l buffer b e h = ap (λ (x : List ℕ). at l x) (pass b _ _ _ _ e h refl)
 
 -- a load that has not begun has nothing due
 unbegun_roomy : (l : Load) (buffer : List ℕ) (p : Phase) → begun p ≡ false → Roomy p l buffer

@@ -15,7 +15,7 @@ ghost use Rattle.placing.specs.Places.{RoomOf};
 
 use image::tables;
 use image::tables::Table;
-use stream::{Load, states};
+use stream::{Fault, Load, states};
 
 // Where a table's next entry goes, and the words that the table has left from there on.
 #[derive(Clone, Copy)]
@@ -65,21 +65,21 @@ pub fn filled(image: &mut [u32], load: Load, w: u32) -> Load
     let table = load.table;
     let placed = load.placed;
     let due = load.due;
-    if due == 0 {
-        if w != crc::finish(load.block) {
-            return states::refuse(image, 7);
-        }
+    if due != 0 {
+        let place = place_of(image, table, placed, due);
+        image[place] = w;
+        states::filling(
+            table,
+            placed + 1,
+            due - 1,
+            crc::word_in(load.stream, w),
+            crc::word_in(load.block, w),
+        )
+    } else if w != crc::finish(load.block) {
+        states::refuse(image, u32::from(Fault::DataSum))
+    } else {
         let count = raised(image, table, placed);
         image::set_count(image, table, count);
-        return states::idle(crc::word_in(load.stream, w));
+        states::idle(crc::word_in(load.stream, w))
     }
-    let place = place_of(image, table, placed, due);
-    image[place] = w;
-    states::filling(
-        table,
-        placed + 1,
-        due - 1,
-        crc::word_in(load.stream, w),
-        crc::word_in(load.block, w),
-    )
 }

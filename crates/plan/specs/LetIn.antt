@@ -1,16 +1,13 @@
 -- What a frame that steps 1 to 6 let in has.
-use Rattle.std.specs.Prelude.{List, ℕ, ◌<◌, ◌≤◌, length}
+use Rattle.std.specs.Prelude.{Option, Some, None, List, ℕ, ◌<◌, ◌≤◌, length}
 use Rattle.image.specs.Layout.{count_of}
 use Rattle.image.specs.declared.tables.Table.TheVariants.{VlanLookup}
-use Rattle.plan.specs.declared.enter.Placed.{Placed}
-use Rattle.plan.specs.declared.enter.Placed.TheVariants.{Absent, At}
-use Rattle.plan.specs.declared.enter.Entered.{Entered}
-use Rattle.plan.specs.declared.enter.Entered.TheVariants.{Dropped, In}
+use Rattle.plan.specs.Enter.{Entered, Dropped, In}
 
 -- where 4 finds an entry, it is one of 07's
-abbrev pub Inside : List ℕ → Placed → Type 0
-Inside image Absent = Unit {0}
-Inside image (At place) = place < count_of image VlanLookup
+abbrev pub Inside : List ℕ → Option ℕ → Type 0
+Inside image None = Unit {0}
+Inside image (Some place) = place < count_of image VlanLookup
 
 -- a frame that is let in: sixty bytes, a place of 07, a priority of three bits
 pub record LetIn (image frame : List ℕ) (place priority : ℕ) : Type 0 where

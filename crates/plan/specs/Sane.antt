@@ -1,19 +1,16 @@
 -- What a course has.
-use Rattle.std.specs.Prelude.{◌≡◌, List, ℕ, ◌<◌}
+use Rattle.std.specs.Prelude.{◌≡◌, Ok, Err, List, ℕ, ◌<◌}
 use Rattle.image.specs.Layout.{count_of}
 use Rattle.image.specs.declared.tables.Table.TheVariants.{Policing}
 use Rattle.fields.specs.Fields.{smax}
-use Rattle.plan.specs.declared.Policed.{Policed}
-use Rattle.plan.specs.declared.Policed.TheVariants.{Unmetered, TooLong, By}
 use Rattle.plan.specs.declared.Course.{Course}
-use Rattle.plan.specs.declared.Planned.{Planned}
-use Rattle.plan.specs.declared.Planned.TheVariants.{Dropped, Goes}
+use Rattle.plan.specs.Police.{Policed}
+use Rattle.plan.specs.Plan.{Planned, Dropped, Goes}
 
 -- where 7 and 8 find entries, both are loaded
 abbrev pub Loaded : List ℕ → Policed → Type 0
-Loaded image Unmetered = Unit {0}
-Loaded image TooLong = Unit {0}
-Loaded image (By policer meter) = (policer < count_of image Policing) × (meter < count_of image Policing)
+Loaded image (Err d) = Unit {0}
+Loaded image (Ok p) = (p.entry < count_of image Policing) × (p.meter < count_of image Policing)
 
 -- a course's meter is a loaded entry's, with its SMAX; its partition is one of the eight; SMAX and RATE have sixteen bits
 pub record Sane (image : List ℕ) (w : Course) : Type 0 where

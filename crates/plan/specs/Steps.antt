@@ -1,19 +1,17 @@
 -- Steps 4 to 6, one definition each (document 01, "One frame, step by step").
-use Rattle.std.specs.Prelude.{Bool, false, cond, not, List, ℕ, eqb}
+use Rattle.std.specs.Prelude.{Bool, false, cond, not, Option, Some, None, List, ℕ, eqb}
 use Rattle.image.specs.Layout.{count_of}
 use Rattle.image.specs.declared.tables.Table.TheVariants.{VlanLookup}
 use Rattle.fields.specs.Fields.{vmemb_port}
 use Rattle.lookup.specs.Vlan.{vlan_at}
 use Rattle.addresses.specs.Address.{holds, barred}
-use Rattle.plan.specs.declared.enter.Placed.{Placed}
-use Rattle.plan.specs.declared.enter.Placed.TheVariants.{Absent, At}
 
 -- an entry of 07, or the count of 07 for none
-abbrev pub placed_at : List ℕ → ℕ → Placed
-placed_at image place = cond (eqb place (count_of image VlanLookup)) Absent (At place)
+abbrev pub placed_at : List ℕ → ℕ → Option ℕ
+placed_at image place = cond (eqb place (count_of image VlanLookup)) None (Some place)
 
 -- 4. "The VLAN has no entry in 07."
-unfoldable pub placed_of : List ℕ → ℕ → Placed
+unfoldable pub placed_of : List ℕ → ℕ → Option ℕ
 placed_of image vlan = placed_at image (vlan_at image vlan)
 
 -- 5. "Tagged and the port is not in VMEMB_PORT."

@@ -3,41 +3,29 @@ ghost use Rattle.std.specs.Prelude.{◌≡◌, ◌<◌, ◌≤◌, length};
 ghost use Rattle.image.specs.Layout.{image_in, count_of};
 ghost use Rattle.image.specs.Sound.{Sound};
 ghost use Rattle.image.specs.declared.tables.Table.TheVariants.{VlanLookup};
+ghost use Rattle.drops.specs.Numbers.{number_in};
 ghost use Rattle.plan.specs.Steps.{placed_of, outsider, kept_out};
-ghost use Rattle.plan.specs.Enter.{by_place, enter_of};
-ghost use Rattle.plan.specs.LetIn.{Inside};
+ghost use Rattle.plan.specs.Enter.{enter_of};
+ghost use Rattle.plan.specs.Answered.{entered_in};
 
-use frame::Intake;
-use image::tables::Table;
+use drops::Dropped;
+use frame::Received;
+
+// A frame that steps 1 to 6 let in: its VLAN, the VLAN's place in 07, and its priority p.
+#[derive(Clone, Copy)]
+pub struct Entrant {
+    pub vlan: u64,
+    pub place: usize,
+    pub priority: u64,
+}
 
 // Step 4: the VLAN's place in 07.
-#[derive(Clone, Copy)]
-pub enum Placed {
-    Absent,
-    At(usize),
-}
-
-// Steps 1 to 6: dropped with the step's number, or let in with its VLAN, the VLAN's place in 07 and its priority p.
-#[derive(Clone, Copy)]
-pub enum Entered {
-    Dropped(u32),
-    In {
-        vlan: u64,
-        place: usize,
-        priority: u64,
-    },
-}
-
-// Step 4.
-pub fn place(image: &[u32], vlan: u64) -> Placed
+#[tactic(auto, unfolding(crate::specs::Steps::placed_of))]
+pub fn place(image: &[u32], vlan: u64) -> Option<usize>
     requires { Sound image.now }
     ensures { result ≡ placed_of (image_in image.now) vlan }
 {
-    let place = lookup::vlan::find(image, vlan);
-    if place == image::count(image, Table::VlanLookup) {
-        return Placed::Absent;
-    }
-    Placed::At(place)
+    lookup::vlan::find(image, vlan)
 }
 
 // Step 5: membership is asked of tagged frames only.
@@ -46,71 +34,43 @@ fn outsider(image: &[u32], port: usize, tagged: bool, place: usize) -> bool
     requires port_bound { (port < 5) × (place < count_of (image_in image.now) VlanLookup) }
     ensures { result ≡ outsider (image_in image.now) port tagged place }
 {
-    if tagged {
-        return !addresses::holds(fields::vlan::vmemb_port(image, place), port);
-    }
-    false
+    tagged && !addresses::holds(fields::vlan::vmemb_port(image, place), port)
 }
 
-// Steps 5 and 6: the number of the one that drops, or 0.
-fn kept_out(image: &[u32], port: usize, vlan: u64, tagged: bool, source: u64, place: usize) -> u32
-    requires sound { Sound image.now }
-    requires port_bound { (port < 5) × (place < count_of (image_in image.now) VlanLookup) }
-    ensures { result ≡ kept_out (image_in image.now) port vlan tagged source place }
-{
-    if outsider(image, port, tagged, place) {
-        return 5;
-    }
-    if addresses::barred(image, port, vlan, source) {
-        return 6;
-    }
-    0
-}
-
-// Steps 4 to 6, by the answer of 4.
-fn by_place(
+// Steps 5 and 6.
+#[tactic(auto, unfolding(crate::specs::Steps::kept_out))]
+fn kept_out(
     image: &[u32],
     port: usize,
-    frame: &[u8],
-    vlan: u64,
-    priority: u64,
-    tagged: bool,
-    placed: Placed,
-) -> Entered
+    received: Received,
+    source: u64,
+    place: usize,
+) -> Result<(), Dropped>
     requires sound { Sound image.now }
-    requires port_bound { (port < 5) × (60 ≤ length frame.now) }
-    requires inside { Inside (image_in image.now) placed }
-    ensures { result ≡ by_place (image_in image.now) port frame.now vlan priority tagged placed }
+    requires port_bound { (port < 5) × (place < count_of (image_in image.now) VlanLookup) }
+    ensures { number_in result ≡ kept_out (image_in image.now) port received.vlan received.tagged source place }
 {
-    let Placed::At(place) = placed else {
-        return Entered::Dropped(4);
-    };
-    let drop = kept_out(image, port, vlan, tagged, frame::mac_at(frame, 6), place);
-    if drop != 0 {
-        return Entered::Dropped(drop);
+    if outsider(image, port, received.tagged, place) {
+        return Err(Dropped::NotMember);
     }
-    Entered::In {
-        vlan,
-        place,
-        priority,
+    if addresses::barred(image, port, received.vlan, source) {
+        return Err(Dropped::Barred);
     }
+    Ok(())
 }
 
 // Steps 1 to 6.
-pub fn enter(image: &[u32], port: usize, frame: &[u8]) -> Entered
+pub fn enter(image: &[u32], port: usize, frame: &[u8]) -> Result<Entrant, Dropped>
     requires sound { Sound image.now }
     requires port_bound { port < 5 }
-    ensures { result ≡ enter_of (image_in image.now) port frame.now }
+    ensures { entered_in result ≡ enter_of (image_in image.now) port frame.now }
 {
-    match frame::take_in(image, port, frame) {
-        Intake::Dropped(drop) => Entered::Dropped(drop),
-        Intake::Taken {
-            vlan,
-            priority,
-            tagged,
-        } => {
-            let placed = place(image, vlan);
-            by_place(image, port, frame, vlan, priority, tagged, placed)
-        }
-    }
+    let received = frame::take_in(image, port, frame)?;
+    let place = place(image, received.vlan).ok_or(Dropped::NoVlan)?;
+    kept_out(image, port, received, frame::mac_at(frame, 6), place)?;
+    Ok(Entrant {
+        vlan: received.vlan,
+        place,
+        priority: received.priority,
+    })
 }

@@ -1,15 +1,15 @@
 // Where a frame is sent: its ports, its new priority, the ports that tag it, and its five queues. Image and frame only.
+// That the image is sound and the port below 5 is asked in each contract, and no type has it: docs/ENTRIES.md names these functions, which take any such image and port.
 #![tactic(auto)]
 
-ghost use Rattle.std.specs.Prelude.{◌≡◌, ◌+◌, ◌<◌, ◌≤◌};
+ghost use Rattle.std.specs.Prelude.{◌≡◌, ◌+◌, ◌<◌};
 ghost use Rattle.image.specs.Layout.{image_in, count_of};
 ghost use Rattle.image.specs.Sound.{Sound};
-ghost use Rattle.image.specs.declared.tables.Table.TheVariants.{AddressLookup, VlanLookup};
-ghost use Rattle.ports.specs.Ports.{towards, wanted_of, mask_of, egress_ports, others, ports_of, queue_of, sending_of};
-
-use image::tables::Table;
+ghost use Rattle.image.specs.declared.tables.Table.TheVariants.{VlanLookup};
+ghost use Rattle.ports.specs.Ports.{wanted_of, egress_ports, others, ports_of, queue_of, sending_of};
 
 // What a sent frame gets: masks of ports with port 0 the lowest bit, and a queue for each of the five ports, 0 where it is not sent.
+// Five fields and no array: a definition sees an array as a list of any length, and `said_of` and `ten_of` say nine and ten numbers of every sending.
 #[derive(Clone, Copy)]
 pub struct Sending {
     pub ports: u64,
@@ -23,19 +23,8 @@ pub struct Sending {
     pub queue4: u64,
 }
 
-// The ports of entry `found` of 05, or FL_DOMAIN where it is the count of 05, for none.
-fn towards(image: &[u32], port: usize, found: usize) -> u64
-    requires sound { Sound image.now }
-    requires port_bound { (port < 5) × (found ≤ count_of (image_in image.now) AddressLookup) }
-    ensures { result ≡ towards (image_in image.now) port found }
-{
-    if found == image::count(image, Table::AddressLookup) {
-        return fields::forwarding::fl_domain(image, port);
-    }
-    fields::address::destports(image, found)
-}
-
 // The ports before the cuts that every frame gets. VLAN_BC cuts broadcasts only.
+#[tactic(auto, unfolding(crate::specs::Ports::wanted_of))]
 fn wanted(image: &[u32], port: usize, vlan: u64, entry: usize, destination: u64) -> u64
     requires sound { Sound image.now }
     requires port_bound { (port < 5) × (entry < count_of (image_in image.now) VlanLookup) }
@@ -44,19 +33,10 @@ fn wanted(image: &[u32], port: usize, vlan: u64, entry: usize, destination: u64)
     if destination == frame::BROADCAST {
         return fields::forwarding::bc_domain(image, port) & fields::vlan::vlan_bc(image, entry);
     }
-    towards(
-        image,
-        port,
-        addresses::destination(image, vlan, destination),
-    )
-}
-
-// A mask of five bits, the first the lowest.
-fn mask(a: u64, b: u64, c: u64, d: u64, e: u64) -> u64
-    requires { (a < 2) × (b < 2) × (c < 2) × (d < 2) × (e < 2) }
-    ensures { result ≡ mask_of a b c d e }
-{
-    a + 2 * b + 4 * c + 8 * d + 16 * e
+    match addresses::destination(image, vlan, destination) {
+        None => fields::forwarding::fl_domain(image, port),
+        Some(found) => fields::address::destports(image, found),
+    }
 }
 
 // The ports with EGRESS.
@@ -64,13 +44,11 @@ fn egress_ports(image: &[u32]) -> u64
     requires { Sound image.now }
     ensures { result ≡ egress_ports (image_in image.now) }
 {
-    mask(
-        fields::mac::egress(image, 0),
-        fields::mac::egress(image, 1),
-        fields::mac::egress(image, 2),
-        fields::mac::egress(image, 3),
-        fields::mac::egress(image, 4),
-    )
+    fields::mac::egress(image, 0)
+        + 2 * fields::mac::egress(image, 1)
+        + 4 * fields::mac::egress(image, 2)
+        + 8 * fields::mac::egress(image, 3)
+        + 16 * fields::mac::egress(image, 4)
 }
 
 // The other four ports.
@@ -78,22 +56,11 @@ fn others(port: usize) -> u64
     requires { port < 5 }
     ensures { result ≡ others port }
 {
-    if port == 0 {
-        return 30;
-    }
-    if port == 1 {
-        return 29;
-    }
-    if port == 2 {
-        return 27;
-    }
-    if port == 3 {
-        return 23;
-    }
-    15
+    31 - (1 << port)
 }
 
-// The ports that the frame is sent to.
+// The ports that the frame is sent to. VLAN, entry and priority come one by one, here and in `send`: the struct of a frame that was let in is `plan`'s, which
+// stands on this crate.
 pub fn ports(image: &[u32], port: usize, vlan: u64, entry: usize, destination: u64) -> u64
     requires sound { Sound image.now }
     requires port_bound { (port < 5) × (entry < count_of (image_in image.now) VlanLookup) }
@@ -113,12 +80,14 @@ fn queue(image: &[u32], ports: u64, q: u64, e: usize) -> u64
     ensures { result ≡ queue_of (image_in image.now) ports q e }
 {
     if addresses::holds(ports, e) {
-        return fields::forwarding::vlan_pmap(image, 5 + q as usize, e);
+        fields::forwarding::vlan_pmap(image, 5 + q as usize, e)
+    } else {
+        0
     }
-    0
 }
 
 // What a frame that is sent to these ports gets.
+#[tactic(auto, unfolding(crate::specs::Ports::sending_of, crate::specs::Ports::sending_at))]
 pub fn send(
     image: &[u32],
     port: usize,

@@ -1,6 +1,6 @@
 -- Demand 1. "It takes every stream, image, ledger, frame and list to an end. The public entries test what they need and refuse by number." Every function
 -- is shown to end, and no entry asks anything of its caller; here is what a refusal leaves, and that whatever did not load is never judged.
-use Rattle.std.specs.Prelude.{◌≡◌, true, false, List, [], ◌∷◌, ℕ, length, replicate}
+use Rattle.std.specs.Prelude.{◌≡◌, true, false, List, [], ◌∷◌, ℕ, length, replicate, Ok, Err}
 use Rattle.image.specs.Layout.{image_words, image_in, mark_of}
 use Rattle.image.specs.Loaded.{too_short, not_loaded}
 use Rattle.stream.specs.declared.Answer.{Answer}
@@ -12,8 +12,7 @@ use Rattle.stream.specs.Paper.{numbered}
 use Rattle.stream.specs.Machine.{begun, damaged, outside, Written}
 use Rattle.stream.specs.Cutting.{unwritten}
 use Rattle.stream.specs.Leaves.{Writes}
-use Rattle.ledger.specs.declared.Answer as ledger
-use Rattle.ledger.specs.declared.Answer.TheVariants as answered
+use Rattle.ledger.specs.Answers as ledger
 use Rattle.ledger.specs.Range.{out_of_range}
 use Rattle.row.specs.Fresh.{no_ledger, Freshened}
 use Rattle.row.specs.Release.{Released}
@@ -108,12 +107,12 @@ pub refused_frame_keeps_all : (buffer g : List ℕ) (port time : ℕ) (frame pla
 refused_frame_keeps_all = refused.refused_frame_keeps_all
 
 pub refused_release_keeps_the_row : (buffer g : List ℕ) (partition n : ℕ) (r : ledger.Answer) (after : List ℕ) → Released buffer g partition r after
-    → r ≡ answered.Refused n
+    → r ≡ Err n
     → after ≡ g
 refused_release_keeps_the_row = refused.refused_release_keeps_the_row
 
 -- a refused fresh ledger is none, never what stood in the row, and 39 refuses it under every image
-pub refused_ledger_is_none : (buffer : List ℕ) (n : ℕ) (r : ledger.Answer) (after : List ℕ) → Freshened buffer r after → r ≡ answered.Refused n
+pub refused_ledger_is_none : (buffer : List ℕ) (n : ℕ) (r : ledger.Answer) (after : List ℕ) → Freshened buffer r after → r ≡ Err n
     → (after ≡ no_ledger) × ((image : List ℕ) → out_of_range image after ≡ true)
 refused_ledger_is_none = refused.refused_ledger_is_none
 

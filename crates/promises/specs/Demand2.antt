@@ -1,6 +1,6 @@
 -- Demand 2. "Its loading answers, tables, verdicts, partitions, meters and tiles are those that source document 001 and document 01 define. A stream is
 -- refused exactly when a rule there is broken, and with the first one broken. A port with no frames shows no share."
-use Rattle.std.specs.Prelude.{◌≡◌, false, List, ℕ, ◌+◌, ◌*◌, ◌<◌, ◌≤◌, length, take, drop}
+use Rattle.std.specs.Prelude.{◌≡◌, false, List, ℕ, ◌+◌, ◌*◌, ◌<◌, ◌≤◌, length, take, drop, Ok}
 use Rattle.image.specs.Rows.{size_of}
 use Rattle.image.specs.Layout.{image_in, image_of, list_of, count_of, entry_of}
 use Rattle.image.specs.Loaded.{too_short}
@@ -10,8 +10,7 @@ use Rattle.stream.specs.declared.Answer.{Answer}
 use Rattle.stream.specs.declared.Answer.TheVariants.{Loaded}
 use Rattle.stream.specs.Paper.{passed, framed, numbered}
 use Rattle.stream.specs.Leaves.{EndsWords, EndsBytes}
-use Rattle.ledger.specs.declared.Answer as ledger
-use Rattle.ledger.specs.declared.Answer.TheVariants.{Done}
+use Rattle.ledger.specs.Answers as ledger
 use Rattle.ledger.specs.Row.{units, credit, many, cell_count, cell}
 use Rattle.ledger.specs.Range.{out_of_range}
 use Rattle.row.specs.Fresh.{Freshened}
@@ -19,7 +18,7 @@ use Rattle.row.specs.Release.{Released}
 use Rattle.settle.specs.declared.Verdict.{Verdict}
 use Rattle.judge.specs.declared.Judgement.{Judgement}
 use Rattle.judge.specs.Judge.{Judges}
-use Rattle.tile.specs.declared.shares.Asked.{Asked}
+use Rattle.tile.specs.Tiles.{Asked}
 use Rattle.kept.specs.History.{Event}
 use Rattle.records.specs.OfK.{list_of_k}
 use Rattle.config_k.specs.Stream.{K}
@@ -80,7 +79,7 @@ first_that_applies = steps.first_that_applies
 -- ---- its partitions: over a night the units left and those taken, by sent frames and sent replicas, are the configured space and those given back
 
 pub units_left_are_the_space_less_those_out : (buffer : List ℕ) (es : List Event) (g : List ℕ) (said : List (Said (Heard Verdict) ledger.Answer)) (z : List ℕ)
-    → Freshened buffer Done g
+    → Freshened buffer (Ok tt) g
     → RunOf buffer g es said z
     → (j : ℕ)
     → j < many units
@@ -102,14 +101,14 @@ release_moves_no_meter = meters.release_moves_no_meter
 -- "with frames and no drops both are +0"; a share is "the exact bits of that division"
 
 pub night_shows_the_sums : (buffer : List ℕ) (es : List Event) (g : List ℕ) (said : List (Said (Heard Verdict) ledger.Answer)) (z : List ℕ) (tile : ℕ → Asked)
-    → NightOf buffer es Done g said z tile
+    → NightOf buffer es (Ok tt) g said z tile
     → (p : ℕ)
     → p < 5
     → Shows (sums_of (own_kind kind_of) p es said) (tile p)
 night_shows_the_sums = sums.night_shows_the_sums
 
 -- a ledger that only permitted calls touched, from a fresh one on, is never refused with 39
-pub own_ledger_never_39 : (buffer : List ℕ) (es : List Event) (g : List ℕ) (said : List (Said (Heard Verdict) ledger.Answer)) (z : List ℕ) → Freshened buffer Done g
+pub own_ledger_never_39 : (buffer : List ℕ) (es : List Event) (g : List ℕ) (said : List (Said (Heard Verdict) ledger.Answer)) (z : List ℕ) → Freshened buffer (Ok tt) g
     → RunOf buffer g es said z
     → out_of_range (image_in buffer) z ≡ false
 own_ledger_never_39 = range.own_ledger_never_39

@@ -6,7 +6,7 @@ use Rattle.stream.specs.declared.Load.{Load}
 use Rattle.stream.specs.declared.states.Wrote.{Wrote}
 use Rattle.stream.specs.Leaves.{Writes, EndsWords, EndsBytes}
 use Rattle.stream.specs.LeavesLaws as leaves
-use Rattle.ledger.specs.declared.Answer as ledger
+use Rattle.ledger.specs.Answers as ledger
 use Rattle.row.specs.Fresh.{Freshened}
 use Rattle.row.specs.FreshLaws as fresh
 use Rattle.row.specs.Release.{Released}
@@ -14,8 +14,7 @@ use Rattle.row.specs.Proved as release
 use Rattle.judge.specs.declared.Judgement.{Judgement}
 use Rattle.judge.specs.Judge.{Judges}
 use Rattle.judge.specs.Laws as judge
-use Rattle.tile.specs.declared.shares.Asked.{Asked}
-use Rattle.tile.specs.Tiles.{Tiled}
+use Rattle.tile.specs.Tiles.{Asked, Tiled}
 use Rattle.tile.specs.TilesLaws as tile
 use Rattle.lent.specs.declared.Event.{Event}
 use Rattle.lent.specs.declared.Told.{Told}
@@ -32,7 +31,6 @@ use Rattle.flat_loads.specs.Calls.{WritesFlat, LoadsWords, LoadsBytes}
 use Rattle.flat_loads.specs.CallsLaws as loads
 use Rattle.flat_frames.specs.declared.FlatJudged.{FlatJudged}
 use Rattle.flat_frames.specs.Frames.{FreshensFlat, JudgesFlat, ReleasesFlat, TilesFlat}
-use Rattle.flat_frames.specs.declared.FlatJudged.{FlatJudged}
 use Rattle.flat_frames.specs.FramesLaws as frames
 use Rattle.flat_lists.specs.Lists.{RecordsFlat}
 use Rattle.flat_lists.specs.ListsLaws as lists

@@ -1,97 +1,61 @@
-// The same write, with the data words that are due at once, by the short tables: what C is given. It stands apart from `loader`, since the program does without those tables.
+// The same write, with the data words that are due at once, by tables: what C is given, and what whole loads run by. It stands apart from `loader`, since the program does without those tables.
 #![tactic(auto)]
 
 ghost use Rattle.std.specs.Prelude.{◌≡◌, ◌<◌, ◌≤◌, length};
 ghost use Rattle.image.specs.Layout.{image_words};
-ghost use Rattle.stream.specs.Fine.{Roomy, Fine};
+ghost use Rattle.stream.specs.Fine.{Roomy};
 ghost use Rattle.stream.specs.Machine.{at, run};
 ghost use Rattle.stream.specs.declared.Phase.TheVariants.{Data};
 ghost use Rattle.stream.specs.Leaves.{Leaves, Writes};
-ghost use Rattle.quick.specs.Takes.{Takes};
 
-use crc_both::Both;
-use placing::refusal;
+use crc_both::{Both, Sums};
+use crc_short::Short;
+use loader::Runs;
 use stream::states::Wrote;
-use stream::{Answer, Load, Phase, states};
+use stream::{Load, Phase};
 
-// A run of data words, no more than are due, by the short tables.
-fn data_run(image: &mut [u32], load: Load, words: &[u32]) -> Load
-    requires image_words_in_bounds { (image_words ≤ length image.old) × Roomy Data load image.old }
-    requires words_nonzero { (0 < length words.now) × (length words.now ≤ load.due) × (load.phase ≡ Data) }
-    ensures { Leaves (run (at load image.old) words.now) result image.new }
-{
-    let sums = Both {
-        block: load.block,
-        stream: load.stream,
-    };
-    one_block::stored(image, load, words, crc_short::words_in_both(sums, words))
-}
-
-// A load state after `count` words.
+// A block's data by tables, those that are due at once; the words between, one by one.
 #[derive(Clone, Copy)]
-pub struct Took {
-    pub load: Load,
-    pub count: usize,
+pub struct ByTables<S> {
+    pub sums: S,
 }
 
-pub fn least(a: usize, b: usize) -> usize
-    ensures { (result ≤ a) × (result ≤ b) × (0 < a → 0 < b → 0 < result) }
-{
-    if a < b { a } else { b }
+impl<S: Sums> ByTables<S> {
+    // A run of data words, no more than are due.
+    fn data_run(&self, image: &mut [u32], load: Load, words: &[u32]) -> Load
+        requires image_words_in_bounds { (image_words ≤ length image.old) × Roomy Data load image.old }
+        requires words_nonzero { (0 < length words.now) × (length words.now ≤ load.due) × (load.phase ≡ Data) }
+        ensures { Leaves (run (at load image.old) words.now) result image.new }
+    {
+        let sums = Both {
+            block: load.block,
+            stream: load.stream,
+        };
+        one_block::stored(image, load, words, self.sums.words_in(sums, words))
+    }
 }
 
-// Some words at once: inside a block those that are due, else one.
-fn some(image: &mut [u32], load: Load, words: &[u32]) -> Took
-    requires { Fine (at load image.old) × (0 < length words.now) }
-    ensures { Takes load image.old words.now result image.new }
-{
-    let phase = load.phase;
-    let due = load.due;
-    if let Phase::Data = phase {
-        if 0 < due {
-            let count = least(due, words.len());
-            let next = data_run(image, load, &words[..count]);
-            return Took { load: next, count };
+impl<S: Sums> Runs for ByTables<S> {
+    fn run(&self, image: &mut [u32], load: Load, words: &[u32]) -> Load {
+        let mut state = load;
+        let mut rest = words;
+        while let Some((first, others)) = rest.split_first() {
+            if matches!(state.phase, Phase::Data) && 0 < state.due {
+                let (data, after) = rest.split_at(state.due.min(rest.len()));
+                state = self.data_run(image, state, data);
+                rest = after;
+            } else {
+                state = loader::step(image, state, *first);
+                rest = others;
+            }
         }
-    }
-    let next = loader::step(image, load, words[0]);
-    Took {
-        load: next,
-        count: 1,
+        state
     }
 }
 
-// Words, one after the other.
-pub fn run(image: &mut [u32], load: Load, words: &[u32]) -> Load
-    requires { Fine (at load image.old) }
-    ensures { Leaves (run (at load image.old) words.now) result image.new }
-{
-    let mut state = load;
-    let mut i: usize = 0;
-    while i < words.len() {
-        let took = some(image, state, &words[i..]);
-        state = took.load;
-        i += took.count;
-    }
-    state
-}
-
-// What `loader::write` does.
+// What `loader::write` does, by the short tables.
 pub fn write(image: &mut [u32], load: Load, words: &[u32]) -> Wrote
     ensures { Writes load image.old words.now result image.new }
 {
-    let refusal = refusal::write_refusal(image, load, words.len());
-    if refusal != 0 {
-        return Wrote {
-            answer: Answer::Refused(refusal),
-            load,
-        };
-    }
-    refusal::open(image, load);
-    let next = run(image, load, words);
-    let phase = next.phase;
-    Wrote {
-        answer: states::answer_of(phase),
-        load: next,
-    }
+    loader::write_by(&ByTables { sums: Short }, image, load, words)
 }

@@ -1,17 +1,13 @@
 -- What is promised of the walk over a list: it goes on inside the list, it skips nothing, it ends; and the code's answer at each place is the
 -- only one.
-use Rattle.std.specs.Prelude.{◌≡◌, refl, Bool, true, false, cond, ltb, leb, eqb, length, get_or}
-use Rattle.std.proofs.Common.{sym, ◌∙◌, subst, not-suc-le-zero, ltb-false, leb-true}
+use Rattle.std.proofs.Common.{List, [], ◌∷◌, ℕ, zero, suc, ◌+◌, ◌-◌, ◌<◌, ◌≤◌, arith, ◌≡◌, refl, Bool, true, false, cond, ltb, leb, eqb, length, get_or, Option, Some, None, sym, ◌∙◌, subst, not-suc-le-zero, ltb-false, leb-true}
 use Rattle.std.proofs.Math.Path.{ap}
-use mathlib.Core.List.{List, [], ◌∷◌}
-use Prim.Native.Nat.{ℕ, zero, suc, ◌+◌, ◌-◌, ◌<◌, ◌≤◌}
-use native.Mathlib.Omega.{arith}
 use Rattle.records.specs.Bytes.{number_at}
 use Rattle.records.specs.List.{Opens, version, shut, Stands, frame, release, end, refused, opening_of, kind_of, with_count, frame_at, release_at, of_kind, under, stands_at}
 use Rattle.records.specs.Answer.{number_of, told}
 use Rattle.records.specs.Walk.{after, walk_for, walk, Stopped, Inside}
 use Rattle.records.specs.declared.Kind.{Kind}
-use Rattle.records.specs.declared.Kind.TheVariants.{Frame, Release, Unknown}
+use Rattle.records.specs.declared.Kind.TheVariants.{Frame, Release}
 use Rattle.records.specs.declared.Refusal.{Refusal}
 use Rattle.records.specs.declared.Refusal.TheVariants as refusal
 use Rattle.records.specs.declared.Record.{Record}
@@ -32,11 +28,11 @@ module _ (list : List ℕ) (at : ℕ) where
       either In (ltb (length list - at - 12) count) _ _ (λ _. tt)
       (λ e. (omega arith, refl, omega (arith, ltb-false)))
 
-  of_kind_lem : (k : Kind) → In (of_kind k list at)
+  of_kind_lem : (k : Option Kind) → In (of_kind k list at)
   unfolding frame_at release_at
-  of_kind_lem Frame = either In (ltb (length list - at) 12) _ _ (λ _. tt) (of_count (number_at list (at + 10) 2))
-  of_kind_lem Release = either In (ltb (length list - at) 2) _ _ (λ _. tt) (λ e. (omega arith, omega (arith, ltb-false)))
-  of_kind_lem Unknown = tt
+  of_kind_lem (Some Frame) = either In (ltb (length list - at) 12) _ _ (λ _. tt) (of_count (number_at list (at + 10) 2))
+  of_kind_lem (Some Release) = either In (ltb (length list - at) 2) _ _ (λ _. tt) (λ e. (omega arith, omega (arith, ltb-false)))
+  of_kind_lem None = tt
 
   of_opening : (o : Opens) → In (under o list at)
   of_opening (shut n) = tt

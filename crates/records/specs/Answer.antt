@@ -1,10 +1,8 @@
 -- What the code's answers say, in the paper's numbers.
-use Rattle.std.specs.Prelude.{◌≡◌, List, ℕ}
+use Rattle.std.specs.Prelude.{◌≡◌, List, ℕ, Result, Ok, Err}
 use Rattle.records.specs.List.{Opens, version, shut, Stands, frame, release, end, refused, stands_at}
 use Rattle.records.specs.declared.Refusal.{Refusal}
 use Rattle.records.specs.declared.Refusal.TheVariants.{Size, Mark, Version, Cut, Kind}
-use Rattle.records.specs.declared.Opening.{Opening}
-use Rattle.records.specs.declared.Opening.TheVariants as opening
 use Rattle.records.specs.declared.Record.{Record}
 use Rattle.records.specs.declared.Record.TheVariants as answer
 
@@ -15,9 +13,9 @@ number_of Version = 51
 number_of Cut = 52
 number_of Kind = 53
 
-abbrev pub opens : Opening → Opens
-opens (opening.Records v) = version v
-opens (opening.Refused why) = shut (number_of why)
+abbrev pub opens : Result ℕ Refusal → Opens
+opens (Ok v) = version v
+opens (Err why) = shut (number_of why)
 
 abbrev pub told : Record → Stands
 told (answer.Frame port time start count next) = frame port time start count next

@@ -6,4 +6,3 @@ pub mod Walk
 pub mod OfK
 pub mod Pins
 pub mod Bytes
-pub mod Differ

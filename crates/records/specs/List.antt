@@ -1,8 +1,8 @@
 -- What stands at a place of a frame list (document 01, "The verdict program").
-use Rattle.std.specs.Prelude.{cond, not, List, [], ◌∷◌, ℕ, ◌+◌, ◌-◌, ltb, leb, eqb, length, get_or, drop}
+use Rattle.std.specs.Prelude.{cond, not, Option, Some, None, List, [], ◌∷◌, ℕ, ◌+◌, ◌-◌, ltb, leb, eqb, length, get_or, drop}
 use Rattle.records.specs.Bytes.{number_at, differ}
 use Rattle.records.specs.declared.Kind.{Kind}
-use Rattle.records.specs.declared.Kind.TheVariants.{Frame, Release, Unknown}
+use Rattle.records.specs.declared.Kind.TheVariants.{Frame, Release}
 
 -- what a list opens with: the version of the records that follow, or the number of the refusal
 pub data Opens : Type 0 where
@@ -39,8 +39,8 @@ opening_of list =
     (version (number_at list 3 2)))))
 
 -- which kinds a version has: the one place that chooses them
-unfoldable pub kind_of : ℕ → ℕ → Kind
-kind_of v byte = cond (not (eqb v 1)) Unknown (cond (eqb byte 1) Frame (cond (eqb byte 2) Release Unknown))
+unfoldable pub kind_of : ℕ → ℕ → Option Kind
+kind_of v byte = cond (not (eqb v 1)) None (cond (eqb byte 1) (Some Frame) (cond (eqb byte 2) (Some Release) None))
 
 -- "Kind 1: port (1 byte), time (8), length (2), bytes", behind the kind byte at `at`; "52 cut record": its head is, or its bytes are
 abbrev pub with_count : List ℕ → ℕ → ℕ → Stands
@@ -56,10 +56,10 @@ unfoldable pub release_at : List ℕ → ℕ → Stands
 release_at list at = cond (ltb (length list - at) 2) (refused 52) (release (number_at list (at + 1) 1) (at + 2))
 
 -- "53 unknown kind", also as the list's last byte
-abbrev pub of_kind : Kind → List ℕ → ℕ → Stands
-of_kind Frame list at = frame_at list at
-of_kind Release list at = release_at list at
-of_kind Unknown list at = refused 53
+abbrev pub of_kind : Option Kind → List ℕ → ℕ → Stands
+of_kind (Some Frame) list at = frame_at list at
+of_kind (Some Release) list at = release_at list at
+of_kind None list at = refused 53
 
 -- "each record starts with its kind byte"; at the list's end and past it the list ends. A list that does not open has no record at any
 -- place ("then no record is run"), and a place inside mark and version is read like any other.

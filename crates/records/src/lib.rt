@@ -20,7 +20,7 @@ const FRAME_HEAD: usize = 12;
 const RELEASE_BYTES: usize = 2;
 
 // Why a list, or what is left of it, is not run.
-#[derive(Clone, Copy)]
+#[derive(Clone, Copy, Debug, PartialEq, Eq)]
 pub enum Refusal {
     Size,
     Mark,
@@ -29,23 +29,14 @@ pub enum Refusal {
     Kind,
 }
 
-// What a list opens with.
-#[derive(Clone, Copy)]
-enum Opening {
-    // Records of this version follow.
-    Records(u64),
-    Refused(Refusal),
-}
-
 // What a record is, by its kind byte.
 #[derive(Clone, Copy)]
 enum Kind {
     Frame,
     Release,
-    Unknown,
 }
 
-// What stands at a place of a list.
+// What stands at a place of a list: one of four, as document 01 tells them (`Stands`), and no `Result` around an `Option`.
 #[derive(Clone, Copy)]
 pub enum Record {
     // The frame's bytes are the `count` bytes from `start` on; `next` is the place after the record.
@@ -64,52 +55,58 @@ pub enum Record {
     Refused(Refusal),
 }
 
-// The refusal's number in document 01.
+impl From<Refusal> for u64 {
+    ghost from_gives = { λ why number. number ≡ number_of why };
+
+    fn from(why: Refusal) -> u64 {
+        match why {
+            Refusal::Size => 54,
+            Refusal::Mark => 50,
+            Refusal::Version => 51,
+            Refusal::Cut => 52,
+            Refusal::Kind => 53,
+        }
+    }
+}
+
+// The refusal's number in document 01, as its `From` has it: docs/ENTRIES.md names this function.
 pub fn number_of(why: Refusal) -> u64
     ensures { result ≡ number_of why }
 {
-    match why {
-        Refusal::Size => 54,
-        Refusal::Mark => 50,
-        Refusal::Version => 51,
-        Refusal::Cut => 52,
-        Refusal::Kind => 53,
-    }
+    u64::from(why)
 }
 
-// What a list opens with: 54, 50, 51, 52 or its version.
-fn opening_of(list: &[u8]) -> Opening
+// What a list opens with: the version of the records that follow, or 54, 50, 51 or 52.
+fn opening_of(list: &[u8]) -> Result<u64, Refusal>
     ensures { opens result ≡ opening_of list.now }
 {
     if list.len() > MOST_BYTES {
-        return Opening::Refused(Refusal::Size);
+        return Err(Refusal::Size);
     }
     if differs(list, 0, b"FRL") {
-        return Opening::Refused(Refusal::Mark);
+        return Err(Refusal::Mark);
     }
     if differs(list, 3, &[0, 1]) {
-        return Opening::Refused(Refusal::Version);
+        return Err(Refusal::Version);
     }
     if list.len() < FIRST {
-        return Opening::Refused(Refusal::Cut);
+        return Err(Refusal::Cut);
     }
-    Opening::Records(number_at(list, 3, 2))
+    Ok(number_at(list, 3, 2))
 }
 
 // Which kind a byte is in a list of this version.
-fn kind_of(version: u64, byte: u8) -> Kind
+fn kind_of(version: u64, byte: u8) -> Option<Kind>
     ensures { result ≡ kind_of version byte }
 {
     if version != 1 {
-        return Kind::Unknown;
+        return None;
     }
-    if byte == 1 {
-        return Kind::Frame;
+    match byte {
+        1 => Some(Kind::Frame),
+        2 => Some(Kind::Release),
+        _ => None,
     }
-    if byte == 2 {
-        return Kind::Release;
-    }
-    Kind::Unknown
 }
 
 // A record of kind 1.
@@ -153,20 +150,16 @@ fn release_at(list: &[u8], at: usize) -> Record
 pub fn record_at(list: &[u8], at: usize) -> Record
     ensures { Reads list.now at result }
 {
-    let opening = opening_of(list);
-    let version = match opening {
-        Opening::Refused(why) => {
-            return Record::Refused(why);
-        }
-        Opening::Records(version) => version,
+    let version = match opening_of(list) {
+        Ok(version) => version,
+        Err(why) => return Record::Refused(why),
     };
     if list.len() <= at {
         return Record::End;
     }
-    let kind = kind_of(version, list[at]);
-    match kind {
-        Kind::Frame => frame_at(list, at),
-        Kind::Release => release_at(list, at),
-        Kind::Unknown => Record::Refused(Refusal::Kind),
+    match kind_of(version, list[at]) {
+        Some(Kind::Frame) => frame_at(list, at),
+        Some(Kind::Release) => release_at(list, at),
+        None => Record::Refused(Refusal::Kind),
     }
 }

@@ -1,9 +1,7 @@
 -- What pins the replicas: as many as entries name the frame's VLAN and port, none where no entry does, and each on its entry's VLAN_EGR.
-use Rattle.std.specs.Prelude.{◌≡◌, Bool, cond, not, List, [], ◌∷◌, eqb}
+use Rattle.std.proofs.Common.{ℕ, zero, suc, ◌+◌, ◌<◌, ◌≤◌, zero-le, ◌≡◌, Bool, cond, not, List, [], ◌∷◌, eqb, ◌∙◌, true≢false, add-zero, arith, eqb-true}
 use Rattle.std.proofs.Math.Path.{refl, sym, ap}
-use Rattle.std.proofs.Common.{◌∙◌, true≢false, add-zero, arith, eqb-true}
 use Rattle.std.proofs.Math.Bool.{true, false}
-use Prim.Native.Nat.{ℕ, zero, suc, ◌+◌, ◌<◌, ◌≤◌, zero-le}
 use Rattle.std.proofs.Math.ListN.{length, length-append}
 use Rattle.laws.specs.Scan.{total, flag}
 use Rattle.fields.specs.Fields.{ing_port, vlan_ing, vlan_egr}

@@ -1,14 +1,12 @@
 -- What holds of no replica and is kept by each holds of all of them: by cases, as a frame's. Whoever needs to know what replicas leave cites this law.
-use Rattle.std.specs.Prelude.{◌≡◌, Bool, true, false, List, [], ◌∷◌, ◌++◌}
+use Rattle.std.proofs.Common.{ℕ, zero, suc, ◌≡◌, Bool, true, false, List, [], ◌∷◌, ◌++◌, sym, subst}
 use Rattle.std.proofs.Math.Path.{refl}
-use Rattle.std.proofs.Common.{sym, subst}
-use Prim.Native.Nat.{ℕ, zero, suc}
 use Rattle.image.specs.Layout.{count_of}
 use Rattle.image.specs.declared.tables.Table.TheVariants.{Retagging}
 use Rattle.fields.specs.Fields.{vlan_egr}
 use Rattle.frame.specs.Bytes.{octets_of}
-use Rattle.plan.specs.declared.enter.Entered.{Entered}
-use Rattle.plan.specs.declared.enter.Entered.TheVariants as entered
+use Rattle.plan.specs.Enter.{Entered}
+use Rattle.plan.specs.Enter as entered
 use Rattle.settle.specs.declared.Verdict.{Verdict}
 use Rattle.settle.specs.Settle.{Judged}
 use Rattle.settle.specs.Carried.{carried_by_cases}

@@ -1,23 +1,28 @@
 -- What replicas have, as entry after entry is passed.
-use Rattle.std.specs.Prelude.{◌≡◌, Bool, List, [], ◌∷◌, ℕ, suc, ◌+◌, ◌*◌, ◌<◌, ◌≤◌, length}
+use Rattle.std.specs.Prelude.{◌≡◌, Bool, Option, Some, None, ok_or, Result, Ok, Err, List, [], ◌∷◌, ℕ, suc, ◌+◌, ◌*◌, ◌<◌, ◌≤◌, length}
 use Rattle.std.proofs.Math.Path.{refl, sym}
 use Rattle.std.proofs.Common.{◌∙◌, ap, subst, zero-le, add-one, arith, length-append}
 use Rattle.std.proofs.Math.Bool.{true, false}
+use Rattle.std.specs.Result.{result_ok}
 use Rattle.laws.specs.Chain.{hit, pass}
 use Rattle.image.specs.Layout.{image_in, count_of}
 use Rattle.image.specs.Sound.{Sound}
 use Rattle.image.specs.declared.tables.Table.TheVariants.{Retagging}
 use Rattle.fields.specs.Fields.{vlan_egr}
 use Rattle.frame.specs.Bytes.{octets_of, destination_of}
-use Rattle.plan.specs.declared.enter.Placed.{Placed}
-use Rattle.plan.specs.declared.enter.Placed.TheVariants.{Absent, At}
-use Rattle.plan.specs.declared.enter.Entered.{Entered}
-use Rattle.plan.specs.declared.enter.Entered.TheVariants as entered
+use Rattle.drops.specs.declared.Dropped.{Dropped}
+use Rattle.drops.specs.declared.Dropped.TheVariants.{NoVlan}
+use Rattle.drops.specs.Numbers.{number_of, number_in}
+use Rattle.plan.specs.declared.enter.Entrant.{Entrant}
+use Rattle.plan.specs.Answered.{entered_in}
+use Rattle.plan.specs.declared.Arrival.{Arrival}
+use Rattle.plan.specs.Arrival.{arrival_of}
+use Rattle.plan.specs.Enter.{Entered}
+use Rattle.plan.specs.Enter as entered
 use Rattle.plan.specs.Steps.{placed_of}
-use Rattle.plan.specs.declared.Planned.TheVariants.{Dropped}
-use Rattle.plan.specs.declared.Policed.{Policed}
-use Rattle.plan.specs.Police.{policed_of}
+use Rattle.plan.specs.Plan as planned
 use Rattle.plan.specs.Plan.{by_policer, plan_of}
+use Rattle.plan.specs.Police.{Policed, policed_of}
 use Rattle.plan.specs.Sane.{Follows}
 use Rattle.plan.proofs.Laws.{follows}
 use Rattle.settle.specs.declared.Verdict.{Verdict}
@@ -27,7 +32,7 @@ use Rattle.settle.specs.Settle.{Judged, carried_out, Carries}
 use Rattle.places.specs.Places.{put_in}
 use Rattle.places.specs.PlacesLaws.{laid_none, laid_more}
 use Rattle.replica.specs.Replicating.{Replicating}
-use Rattle.replica.specs.Replica.{names, by_policed, planned_by, by_placed, replica_plan, Replicas, replica_on, joined, replicas_to, replicas_in, replicas_of, Replicates}
+use Rattle.replica.specs.Replica.{names, by_policed, planned_by, by_placed, replica_plan, Replicas, replica_on, joined, replicas_to, replicas_in, replicas_of, replicas_for, Replicates}
 
 -- ---- a replica's plan
 
@@ -35,9 +40,9 @@ pub replica_follows : (image : List ℕ) (port : ℕ) (frame : List ℕ) (vlan p
 unfolding replica_plan
 replica_follows image port frame vlan priority = go (placed_of image vlan)
   where
-    go : (p : Placed) → Follows image (by_placed image port frame vlan priority p)
-    go Absent = tt
-    go (At place) = follows image port frame vlan place priority
+    go : (p : Option ℕ) → Follows image (by_placed image port frame vlan priority p)
+    go None = tt
+    go (Some place) = follows image port frame vlan place priority
 
 -- it is the one by what 7 and 8 answer of the frame
 planned_is : (image : List ℕ) (port : ℕ) (frame : List ℕ) (vlan priority : ℕ)
@@ -45,23 +50,26 @@ planned_is : (image : List ℕ) (port : ℕ) (frame : List ℕ) (vlan priority :
 unfolding planned_by replica_plan plan_of
 planned_is image port frame vlan priority = go (placed_of image vlan)
   where
-    go : (p : Placed)
+    go : (p : Option ℕ)
         → by_policed image port (destination_of frame) vlan priority (policed_of image port priority (destination_of frame) (octets_of frame)) p
         ≡ by_placed image port frame vlan priority p
-    go Absent = refl
-    go (At place) = refl
+    go None = refl
+    go (Some place) = refl
 
 -- by a place p that a call handed over
-pub is_absent : (image g : List ℕ) (port time octets destination vlan priority : ℕ) (q : Policed) (p : Placed) → p ≡ placed_of image vlan → p ≡ Absent
-    → Carries g time octets (planned_by image port destination vlan priority q) (Drop 4) g
+pub is_absent : (image g : List ℕ) (port time octets destination vlan priority : ℕ) (q : Policed) (p : Option ℕ) (d : Dropped) → p ≡ placed_of image vlan → p ≡ None
+    → Err d ≡ ok_or p NoVlan
+    → Carries g time octets (planned_by image port destination vlan priority q) (Drop (number_of d)) g
 unfolding planned_by
-is_absent image g port time octets destination vlan priority q p e h =
-    carries_as g time octets _ (Dropped 4) (Drop 4) g (ap (by_policed image port destination vlan priority q) (sym e ∙ h)) (drop_carries g time octets 4)
+is_absent image g port time octets destination vlan priority q p d e h o =
+    subst (λ (n : ℕ). Carries g time octets (planned_by image port destination vlan priority q) (Drop n) g)
+    (sym (ap number_in (o ∙ ap (λ (x : Option ℕ). ok_or x NoVlan) h)))
+    (carries_as g time octets _ (planned.Dropped 4) (Drop 4) g (ap (by_policed image port destination vlan priority q) (sym e ∙ h)) (drop_carries g time octets 4))
 
 -- and, where it is one of 07's, by what 7 and 8 answered
-pub is_placed : (image g : List ℕ) (port time octets destination vlan priority : ℕ) (q k : Policed) (p : Placed) (place : ℕ) (r : Verdict) (after : List ℕ)
+pub is_placed : (image g : List ℕ) (port time octets destination vlan priority : ℕ) (q k : Policed) (p : Option ℕ) (place : ℕ) (r : Verdict) (after : List ℕ)
     → p ≡ placed_of image vlan
-    → p ≡ At place
+    → p ≡ Some place
     → q ≡ k
     → Carries g time octets (by_policer image port destination vlan place priority k) r after
     → Carries g time octets (planned_by image port destination vlan priority q) r after
@@ -70,22 +78,18 @@ is_placed image g port time octets destination vlan priority q k p place r after
     carries_as g time octets _ (by_policer image port destination vlan place priority k) r after
     (ap (by_policed image port destination vlan priority q) (sym e ∙ h) ∙ ap (by_policer image port destination vlan place priority) w)
 
--- of the frame's destination, octets and what 7 and 8 answered of it
-pub carries_replica : (image g : List ℕ) (port time : ℕ) (frame : List ℕ) (vlan priority destination octets : ℕ) (q : Policed) (r : Verdict) (after : List ℕ)
-    → destination ≡ destination_of frame
-    → octets ≡ octets_of frame
-    → q ≡ policed_of image port priority destination octets
-    → Carries g time octets (planned_by image port destination vlan priority q) r after
-    → Carries g time (octets_of frame) (replica_plan image port frame vlan priority) r after
-carries_replica image g port time frame vlan priority destination octets q r after d l e c =
-    subst (λ (x : ℕ). Carries g time x (replica_plan image port frame vlan priority) r after) l
-    (carries_as g time octets _ _ r after
-    (sym
-    (ap (planned_by image port destination vlan priority) e
-    ∙ ap (λ (x : ℕ). planned_by image port x vlan priority (policed_of image port priority x octets)) d
-    ∙ ap (λ (x : ℕ). planned_by image port (destination_of frame) vlan priority (policed_of image port priority (destination_of frame) x)) l
-    ∙ planned_is image port frame vlan priority))
-    c)
+-- of how the frame came, and of what 7 and 8 answered of it; v is the verdict that r was turned into
+pub carries_replica : (image g : List ℕ) (port time : ℕ) (frame : List ℕ) (vlan priority : ℕ) (a : Arrival) (q : Policed) (v r : Verdict) (after : List ℕ)
+    → v ≡ r
+    → a ≡ arrival_of port time frame
+    → q ≡ policed_of image a.port priority a.destination a.octets
+    → Carries g a.time a.octets (planned_by image a.port a.destination vlan priority q) r after
+    → Carries g time (octets_of frame) (replica_plan image port frame vlan priority) v after
+carries_replica image g port time frame vlan priority a q v r after is e p c =
+    let police = subst (λ (x : Arrival). q ≡ policed_of image x.port priority x.destination x.octets) e p in
+    carries_as g time (octets_of frame) _ _ v after (sym (ap (planned_by image port (destination_of frame) vlan priority) police ∙ planned_is image port frame vlan priority))
+    (subst (λ (x : Arrival). Carries g x.time x.octets (planned_by image x.port x.destination vlan priority q) v after) e
+    (subst (λ (x : Verdict). Carries g a.time a.octets (planned_by image a.port a.destination vlan priority q) x after) (sym is) c))
 
 -- ---- entry after entry
 
@@ -103,7 +107,7 @@ module _ (image g : List ℕ) (port time : ℕ) (frame : List ℕ) (vlan priorit
   unfolding replicas_to
   to_same n e = sym (pass false (names image port vlan n) _ _ _ (sym e) refl refl)
 
--- there is a place for each: 12 has at most 32 entries, of ten numbers
+-- there is a place for each: 12 has at most 32 entries
 pub few_entries : (buffer : List ℕ) (entries : ℕ) → Sound buffer → entries ≡ count_of (image_in buffer) Retagging → entries ≤ 32
 few_entries buffer entries s e = subst (λ (k : ℕ). k ≤ 32) (sym e) (s.within.within Retagging)
 
@@ -196,6 +200,12 @@ pub replicating_no : (image g : List ℕ) (port time : ℕ) (frame : List ℕ) (
 replicating_no image g port time frame vlan priority before entries e z = replicating_end g before 0 0 0 (replicating_none 0) zero-le (sym z ∙ e)
 
 -- ---- by what steps 1 to 6 answered
+
+-- the code's answer to them, with its drop left out
+pub for_entered : (image g : List ℕ) (port time : ℕ) (frame : List ℕ) (e : Result Entrant Dropped)
+    → replicas_for image g port time frame (result_ok e) ≡ replicas_of image g port time frame (entered_in e)
+for_entered image g port time frame (Ok x) = refl
+for_entered image g port time frame (Err d) = refl
 
 pub none_of : (image g : List ℕ) (port time : ℕ) (frame : List ℕ) (q : Entered) (n : ℕ) (before : List ℕ) → q ≡ entered.Dropped n
     → Replicates (replicas_of image g port time frame q) before 0 g before

@@ -2,10 +2,9 @@
 use Rattle.std.specs.Prelude.{◌≡◌, cond, List, [], ◌∷◌, ◌++◌, ℕ, zero, suc, ◌-◌, ◌≤◌, ltb, eqb, length, replicate}
 use Rattle.image.specs.Layout.{image_in}
 use Rattle.fields.specs.Fields.{part_spc}
-use Rattle.ledger.specs.declared.Answer.{Answer}
+use Rattle.ledger.specs.Answers.{Answer, answer_of, said_of}
 use Rattle.ledger.specs.Row.{credit, since, last, start, cell_count, put}
 use Rattle.ledger.specs.Range.{full_of, unloaded}
-use Rattle.ledger.specs.Answers.{answer_of, said_of}
 
 -- f of each index below n, in order
 unfoldable pub table : ℕ → (ℕ → ℕ) → List ℕ

@@ -1,5 +1,5 @@
 -- How loops fill a fresh row from its front, and what a refused call leaves.
-use Rattle.std.specs.Prelude.{◌≡◌, refl, Bool, true, false, cond, List, [], ◌∷◌, ◌++◌, ℕ, zero, suc, ◌+◌, ◌-◌, ◌<◌, ◌≤◌, ltb, length, get_or, set, replicate}
+use Rattle.std.specs.Prelude.{◌≡◌, refl, Bool, true, false, cond, List, [], ◌∷◌, ◌++◌, ℕ, zero, suc, ◌+◌, ◌-◌, ◌<◌, ◌≤◌, ltb, length, get_or, set, replicate, Ok, Err}
 use Rattle.std.proofs.Common.{sym, ◌∙◌, ap, subst, ⊎_elim, append-nil, le_refl, le_antisymm, le_of_lt, le_of_suc-le-suc, not-suc-le-zero, eq-or-lt_of_le, zero-add, add-zero, add-one, arith, lit≤, length-append, length-set, get_or-append-add}
 use Rattle.std.proofs.Math.ListN.{get_or-append}
 use Rattle.std.proofs.lemmas.List.{set_at}
@@ -8,11 +8,9 @@ use Rattle.laws.specs.Chain.{hit_lt, pass_lt, at_zero, not_zero}
 use Rattle.image.specs.Layout.{image_in, count_of}
 use Rattle.image.specs.declared.tables.Table.TheVariants.{Policing}
 use Rattle.fields.specs.Fields.{part_spc}
-use Rattle.ledger.specs.declared.Answer.{Answer}
-use Rattle.ledger.specs.declared.Answer.TheVariants.{Refused, Done}
+use Rattle.ledger.specs.Answers.{Answer, answer_of, said_of}
 use Rattle.ledger.specs.Row.{units, credit, since, start, many, cell_count}
 use Rattle.ledger.specs.Range.{units_over, full_of, credit_over, tiles_off, times_over, out_of_range, unloaded}
-use Rattle.ledger.specs.Answers.{answer_of, said_of}
 use Rattle.row.specs.Fresh.{table, fresh_cell, fresh_of, no_ledger, Freshened, Filling}
 
 pub length_table : (n : ℕ) (f : ℕ → ℕ) → length (table n f) ≡ n
@@ -118,14 +116,14 @@ fresh_end image row k n l e h =
     filling_end (fresh_cell image) row (start credit + k) l (λ m g. fresh_rest image m (omega (arith, e)))
 
 -- a number n that 31 and 30 come to refuses, or does not
-pub not_fresh : (buffer : List ℕ) (n : ℕ) (after : List ℕ) → n ≡ unloaded buffer → (n ≡ 0 → ⊥) → after ≡ no_ledger → Freshened buffer (Refused n) after
+pub not_fresh : (buffer : List ℕ) (n : ℕ) (after : List ℕ) → n ≡ unloaded buffer → (n ≡ 0 → ⊥) → after ≡ no_ledger → Freshened buffer (Err n) after
 not_fresh buffer n after e z h =
-    let a : Refused n ≡ answer_of (unloaded buffer) = not_zero _ _ _ _ _ e z (ap Refused e) in
+    let a : Err n ≡ answer_of (unloaded buffer) = not_zero _ _ _ _ _ e z (ap Err e) in
     record { answer = a; said = ap said_of a; row = not_zero _ _ _ _ _ e z h }
 
-pub is_fresh : (buffer : List ℕ) (n : ℕ) (after : List ℕ) → n ≡ unloaded buffer → n ≡ 0 → after ≡ fresh_of (image_in buffer) → Freshened buffer Done after
+pub is_fresh : (buffer : List ℕ) (n : ℕ) (after : List ℕ) → n ≡ unloaded buffer → n ≡ 0 → after ≡ fresh_of (image_in buffer) → Freshened buffer (Ok tt) after
 is_fresh buffer n after e z h =
-    let a : Done ≡ answer_of (unloaded buffer) = at_zero _ _ _ _ _ e z refl in
+    let a : (Ok tt) ≡ answer_of (unloaded buffer) = at_zero _ _ _ _ _ e z refl in
     record { answer = a; said = ap said_of a; row = at_zero _ _ _ _ _ e z h }
 
 -- nobody who forgets the answer gets a judged bench: 39 refuses what a refused call gives, under every image

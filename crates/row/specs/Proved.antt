@@ -6,7 +6,7 @@ use Rattle.std.proofs.Math.Bool.{cond}
 use mathlib.Core.List.{List, [], ◌∷◌}
 use Rattle.image.specs.Layout.{image_in}
 use Rattle.image.specs.Loaded.{too_short}
-use Rattle.ledger.specs.declared.Answer.{Answer}
+use Rattle.ledger.specs.Answers.{Answer}
 use Rattle.ledger.specs.Range.{standing}
 use Rattle.ledger.specs.Proved.{same_standing}
 use Rattle.row.specs.Release.{unreleased, release_refusal, given_to, released, Released}

@@ -2,11 +2,10 @@
 use Rattle.std.specs.Prelude.{◌≡◌, cond, List, ℕ, ◌+◌, ◌<◌, ltb, leb, eqb}
 use Rattle.image.specs.Layout.{image_in}
 use Rattle.fields.specs.Fields.{part_spc}
-use Rattle.ledger.specs.declared.Answer.{Answer}
+use Rattle.ledger.specs.Answers.{Answer, answer_of, said_of}
 use Rattle.ledger.specs.Row.{units, many, cell, put}
 use Rattle.ledger.specs.Range.{standing}
 use Rattle.ledger.specs.Stands.{Stands}
-use Rattle.ledger.specs.Answers.{answer_of, said_of}
 
 -- 36, 37; 0 where neither refuses
 abbrev pub unreleased : List ℕ → List ℕ → ℕ → ℕ

@@ -1,11 +1,10 @@
 -- What a release that is not refused has, and its promise.
-use Rattle.std.specs.Prelude.{◌≡◌, refl, Bool, true, false, cond, List, ℕ, ltb, leb, eqb}
+use Rattle.std.specs.Prelude.{◌≡◌, refl, Bool, true, false, cond, List, ℕ, ltb, leb, eqb, Ok, Err}
 use Rattle.std.proofs.Common.{sym, ◌∙◌, ap, arith, ltb-false, leb-false, eqb-true}
 use Rattle.std.proofs.lemmas.Bool.{eqb-false}
 use Rattle.laws.specs.Chain.{at_zero, not_zero, zero_first, zero_rest}
 use Rattle.image.specs.Layout.{image_in}
 use Rattle.fields.specs.Fields.{part_spc}
-use Rattle.ledger.specs.declared.Answer.TheVariants.{Refused, Done}
 use Rattle.ledger.specs.Row.{units, cell}
 use Rattle.ledger.specs.Range.{standing}
 use Rattle.ledger.proofs.Laws.{part_spc_small, stands}
@@ -35,15 +34,15 @@ releasable buffer g partition e = by (eqb (standing buffer g) 0) refl e
 pub has_room : (buffer g : List ℕ) (partition n : ℕ) → n ≡ release_refusal buffer g partition → n ≡ 0 → HasRoom g partition
 has_room buffer g partition n e z = (releasable buffer g partition (sym e ∙ z)).has
 
-pub not_released : (buffer g : List ℕ) (partition n : ℕ) → n ≡ release_refusal buffer g partition → (n ≡ 0 → ⊥) → Released buffer g partition (Refused n) g
+pub not_released : (buffer g : List ℕ) (partition n : ℕ) → n ≡ release_refusal buffer g partition → (n ≡ 0 → ⊥) → Released buffer g partition (Err n) g
 unfolding released
 not_released buffer g partition n e z =
-    let a : Refused n ≡ answer_of (release_refusal buffer g partition) = not_zero _ _ _ _ _ e z (ap Refused e) in
+    let a : Err n ≡ answer_of (release_refusal buffer g partition) = not_zero _ _ _ _ _ e z (ap Err e) in
     record { answer = a; said = ap said_of a; row = not_zero _ _ _ _ _ e z refl }
 
 pub is_released : (buffer g : List ℕ) (partition n : ℕ) (after : List ℕ) → n ≡ release_refusal buffer g partition → n ≡ 0 → after ≡ given_to g partition
-    → Released buffer g partition Done after
+    → Released buffer g partition (Ok tt) after
 unfolding released
 is_released buffer g partition n after e z h =
-    let a : Done ≡ answer_of (release_refusal buffer g partition) = at_zero _ _ _ _ _ e z refl in
+    let a : (Ok tt) ≡ answer_of (release_refusal buffer g partition) = at_zero _ _ _ _ _ e z refl in
     record { answer = a; said = ap said_of a; row = at_zero _ _ _ _ _ e z h }

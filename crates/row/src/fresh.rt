@@ -6,7 +6,7 @@ ghost use Rattle.row.specs.Fresh.{fresh_of, no_ledger, Freshened};
 
 use image::tables::Table;
 use ledger::range::{LATEST, full, unloaded};
-use ledger::{Answer, CELLS, CREDIT, LAST, PARTITIONS, UNITS};
+use ledger::{CELLS, CREDIT, LAST, PARTITIONS, UNITS};
 
 // Every partition at its PART_SPC, every meter that has an entry full, nothing anywhere else.
 fn fresh_row(image: &[u32]) -> [u64; CELLS]
@@ -14,16 +14,11 @@ fn fresh_row(image: &[u32]) -> [u64; CELLS]
     ensures { result ≡ fresh_of (image_in image.now) }
 {
     let mut row = [0u64; CELLS];
-    let mut j: usize = 0;
-    while j < PARTITIONS {
+    for j in 0..PARTITIONS {
         row[UNITS + j] = fields::parameters::part_spc(image, j);
-        j += 1;
     }
-    let n = image::count(image, Table::Policing);
-    let mut k: usize = 0;
-    while k < n {
+    for k in 0..image::count(image, Table::Policing) {
         row[CREDIT + k] = full(image, k);
-        k += 1;
     }
     row
 }
@@ -38,14 +33,17 @@ fn no_ledger() -> [u64; CELLS]
 }
 
 // Fills the lent row: partitions and meters full, times and tiles 0; refused with 31 or 30, with no ledger.
-pub fn fresh_ledger(image: &[u32], row: &mut [u64; CELLS]) -> Answer
+pub fn fresh_ledger(image: &[u32], row: &mut [u64; CELLS]) -> Result<(), u32>
     ensures { Freshened image.now result row.new }
 {
-    let refused = unloaded(image);
-    if refused != 0 {
-        *row = no_ledger();
-        return Answer::Refused(refused);
+    match unloaded(image) {
+        Err(refusal) => {
+            *row = no_ledger();
+            Err(u32::from(refusal))
+        }
+        Ok(()) => {
+            *row = fresh_row(image);
+            Ok(())
+        }
     }
-    *row = fresh_row(image);
-    Answer::Done
 }

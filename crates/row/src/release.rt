@@ -2,33 +2,32 @@
 ghost use Rattle.std.specs.Prelude.{◌≡◌, ◌<◌};
 ghost use Rattle.image.specs.Layout.{image_in};
 ghost use Rattle.image.specs.Sound.{Sound};
+ghost use Rattle.ledger.specs.Refusals.{refused_by};
 ghost use Rattle.row.specs.Release.{unreleased, release_refusal, given_to, HasRoom, Released};
 
 use ledger::range::standing;
-use ledger::{Answer, CELLS, UNITS};
+use ledger::refusal::Refusal;
+use ledger::{CELLS, UNITS};
 
-// 36, 37; 0 where neither refuses.
-fn unreleased(image: &[u32], row: &[u64; CELLS], partition: usize) -> u32
+// 36, 37.
+fn unreleased(image: &[u32], row: &[u64; CELLS], partition: usize) -> Result<(), Refusal>
     requires { Sound image.now }
-    ensures { result ≡ unreleased (image_in image.now) row.now partition }
+    ensures { refused_by result ≡ unreleased (image_in image.now) row.now partition }
 {
     if 7 < partition {
-        return 36;
+        return Err(Refusal::NoSuchPartition);
     }
     if fields::parameters::part_spc(image, partition) <= row[UNITS + partition] {
-        return 37;
+        return Err(Refusal::NothingOut);
     }
-    0
+    Ok(())
 }
 
-// What refuses a release: 31, 30, 39, 36, 37; 0 where nothing does.
-fn refusal(image: &[u32], row: &[u64; CELLS], partition: usize) -> u32
-    ensures { result ≡ release_refusal image.now row.now partition }
+// What refuses a release: 31, 30, 39, 36, 37.
+fn refusal(image: &[u32], row: &[u64; CELLS], partition: usize) -> Result<(), Refusal>
+    ensures { refused_by result ≡ release_refusal image.now row.now partition }
 {
-    let refused = standing(image, row);
-    if refused != 0 {
-        return refused;
-    }
+    standing(image, row)?;
     unreleased(image, row, partition)
 }
 
@@ -37,17 +36,14 @@ fn give_back(row: &mut [u64; CELLS], partition: usize)
     requires { HasRoom row.old partition }
     ensures { row.new ≡ given_to row.old partition }
 {
-    row[UNITS + partition] = row[UNITS + partition] + 1;
+    row[UNITS + partition] += 1;
 }
 
 // One unit of a partition comes back.
-pub fn release(image: &[u32], row: &mut [u64; CELLS], partition: usize) -> Answer
+pub fn release(image: &[u32], row: &mut [u64; CELLS], partition: usize) -> Result<(), u32>
     ensures { Released image.now row.old partition result row.new }
 {
-    let refused = refusal(image, row, partition);
-    if refused != 0 {
-        return Answer::Refused(refused);
-    }
+    refusal(image, row, partition)?;
     give_back(row, partition);
-    Answer::Done
+    Ok(())
 }

@@ -1,4 +1,5 @@
--- Laws of a run of the rules, one after the other up to the first that is broken. None of them counts the rules.
+-- Laws of a run of the rules, one after the other up to the first that is broken. None of them counts the rules. The code asks the rules in a row, and its
+-- proof needs none of these: they say how far the list is asked.
 use Rattle.std.specs.Prelude.{◌≡◌, refl, Bool, true, false, cond, not, List, [], ◌∷◌, ℕ, zero, suc, ◌+◌, ◌<◌, ◌≤◌, T, eqb, length, get_or}
 use Rattle.std.proofs.Common.{sym, ◌∙◌, ap, subst, le_antisymm, le_of_suc-le-suc, not-suc-le-zero, zero-lt-suc, eq-eqb}
 use Rattle.std.proofs.Math.Nat.{suc-le-suc_iff}
@@ -102,7 +103,7 @@ ports_there image k i past e h = (complete image (past_20 image k i past e h)).p
 pub spaces_there : (image : List ℕ) (k i : ℕ) → broken_before image k ≡ false → k ≡ i → 0 < i → count_of image ForwardingParameters ≡ 1
 spaces_there image k i past e h = (complete image (past_20 image k i past e h)).spaces
 
--- for `search`: what an arm's test asks, and what an arm says
+-- the laws by subject: what a later rule may lean on, and what a rule says
 pub ruleset asked = (ports_there, spaces_there)
 
 pub ruleset says = (arm_says, again_twice)

@@ -1,6 +1,6 @@
 -- What a course spends of a row, and the row once it is spent.
 use Rattle.std.specs.Prelude.{List, ℕ}
-use Rattle.spend.specs.declared.Spent.{Spent}
+use Rattle.spend.specs.Spend.{Spent}
 use Rattle.plan.specs.declared.Course.{Course}
 use Rattle.settle.specs.Settle.{spent_with, settled_by, held_at, stored}
 

@@ -6,8 +6,7 @@ use Rattle.std.proofs.Math.Bool.{true, false}
 use Rattle.std.proofs.Math.Dec.{eqb}
 use Rattle.std.proofs.lemmas.Bool.{eqb-false}
 use Rattle.plan.specs.declared.Course.{Course}
-use Rattle.plan.specs.declared.Planned.{Planned}
-use Rattle.plan.specs.declared.Planned.TheVariants.{Dropped, Goes}
+use Rattle.plan.specs.Plan.{Planned, Dropped, Goes}
 use Rattle.plan.specs.Sane.{Sane, Follows}
 use Rattle.settle.specs.declared.Verdict.TheVariants.{Drop, Sent}
 use Rattle.settle.specs.Settle.{settled_of, Judged, judged, carried_out}

@@ -6,10 +6,9 @@ use Rattle.ledger.proofs.Laws.{cells}
 use Rattle.ledger.specs.Stands.{Counted}
 use Rattle.spend.specs.declared.Counts.{Counts}
 use Rattle.plan.specs.declared.Course.{Course}
-use Rattle.plan.specs.declared.Planned.{Planned}
-use Rattle.plan.specs.declared.Planned.TheVariants.{Dropped, Goes}
+use Rattle.plan.specs.Plan.{Planned, Dropped, Goes}
 use Rattle.settle.specs.declared.Verdict.{Verdict}
-use Rattle.settle.specs.declared.Held.{Held}
+use Rattle.spend.specs.declared.Held.{Held}
 use Rattle.settle.specs.Settle.{settled_of, held_at, stored, carried_out, Carries}
 use Rattle.settle.specs.Runs.{RunsAll}
 use Rattle.settle.specs.Note.{counts_at}

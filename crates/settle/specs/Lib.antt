@@ -1,5 +1,6 @@
 -- Steps 9 to 11 on the row.
 pub mod Settle
+pub mod Answered
 pub mod Runs
 pub mod RunsLaws
 pub mod After

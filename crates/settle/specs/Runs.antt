@@ -2,8 +2,7 @@
 use Rattle.std.specs.Prelude.{◌<◌}
 use Rattle.ledger.specs.Row.{units, credit, many}
 use Rattle.plan.specs.declared.Course.{Course}
-use Rattle.plan.specs.declared.Planned.{Planned}
-use Rattle.plan.specs.declared.Planned.TheVariants.{Dropped, Goes}
+use Rattle.plan.specs.Plan.{Planned, Dropped, Goes}
 
 -- what carrying out a course asks: its cells are there, and its numbers small enough
 pub record Runs (w : Course) : Type 0 where

@@ -1,14 +1,12 @@
 -- A plan made on an image that 30 does not refuse can be carried out.
-use Rattle.std.specs.Prelude.{◌≡◌, List, ℕ, ◌<◌}
+use Rattle.std.specs.Prelude.{◌≡◌, Ok, List, ℕ, ◌<◌}
 use Rattle.std.proofs.Common.{sym, subst, lt_of_lt_of_le}
 use Rattle.image.specs.Layout.{image_in, count_of}
 use Rattle.image.specs.Sound.{Sound}
 use Rattle.image.specs.declared.tables.Table.TheVariants.{Policing}
 use Rattle.plan.specs.declared.Course.{Course}
-use Rattle.plan.specs.declared.Planned.{Planned}
-use Rattle.plan.specs.declared.Planned.TheVariants.{Dropped, Goes}
-use Rattle.plan.specs.declared.Policed.TheVariants.{By}
-use Rattle.plan.specs.Plan.{course_of}
+use Rattle.plan.specs.Police.{by}
+use Rattle.plan.specs.Plan.{Planned, Dropped, Goes, course_of}
 use Rattle.plan.specs.Sane.{Sane, Follows}
 use Rattle.plan.proofs.Laws.{follows_by}
 use Rattle.settle.specs.Runs.{Runs, RunsAll}
@@ -31,4 +29,4 @@ pub course_runs : (buffer : List ℕ) (port destination vlan place priority poli
     → w ≡ course_of (image_in buffer) port destination vlan place priority policer meter
     → Runs w
 course_runs buffer port destination vlan place priority policer meter w s p m e =
-    subst Runs (sym e) (runs buffer _ s (follows_by (image_in buffer) port destination vlan place priority (By policer meter) (p, m)))
+    subst Runs (sym e) (runs buffer _ s (follows_by (image_in buffer) port destination vlan place priority (Ok (by policer meter)) (p, m)))

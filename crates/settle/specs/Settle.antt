@@ -2,16 +2,13 @@
 use Rattle.std.specs.Prelude.{◌≡◌, cond, List, ℕ, eqb}
 use Rattle.ledger.specs.Row.{units, credit, since, cell, put}
 use Rattle.spend.specs.declared.Meter.{Meter}
-use Rattle.spend.specs.declared.Spent.{Spent}
-use Rattle.spend.specs.Spend.{spent_of}
+use Rattle.spend.specs.Spend.{Spent, spent_of}
 use Rattle.ports.specs.declared.Sending.{Sending}
 use Rattle.plan.specs.declared.Course.{Course}
-use Rattle.plan.specs.declared.Planned.{Planned}
-use Rattle.plan.specs.declared.Planned.TheVariants.{Dropped, Goes}
+use Rattle.plan.specs.Plan.{Planned, Dropped, Goes}
 use Rattle.settle.specs.declared.Verdict.{Verdict}
 use Rattle.settle.specs.declared.Verdict.TheVariants.{Drop, Sent}
-use Rattle.settle.specs.declared.Held.{Held}
-use Rattle.settle.specs.declared.Settled.{Settled}
+use Rattle.spend.specs.declared.Held.{Held}
 
 -- the course's meter, as these cells have it
 abbrev pub meter_of : Course → Held → Meter
@@ -25,6 +22,10 @@ abbrev pub verdict_of : Sending → ℕ → Verdict
 verdict_of sending drop = cond (eqb drop 0) (Sent sending) (Drop drop)
 
 -- the verdict, and the cells as it leaves them
+pub record Settled : Type 0 where
+  pub verdict : Verdict
+  pub held : Held
+
 abbrev pub settled_by : Course → Spent → Settled
 settled_by w s = record { verdict = verdict_of w.sending s.drop; held = record { credit = s.credit; since = s.since; units = s.units } }
 

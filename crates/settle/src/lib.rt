@@ -1,5 +1,6 @@
 // Steps 9 to 11: on the few numbers that a course concerns, and on the row, of which those are loaded and stored. What is noted of a frame
-// stands in `note`.
+// stands in `note`. The functions are inlined: a sending is nine numbers, which each return would copy.
+// That the image is sound and the port below 5 is asked in each contract, and no type has it: docs/ENTRIES.md names these functions, which take any such image and port.
 #![tactic(auto)]
 
 pub mod note;
@@ -8,16 +9,19 @@ ghost use Rattle.std.specs.Prelude.{◌≡◌, ◌<◌};
 ghost use Rattle.image.specs.Layout.{image_in, count_of};
 ghost use Rattle.image.specs.Sound.{Sound};
 ghost use Rattle.image.specs.declared.tables.Table.TheVariants.{Policing, VlanLookup};
-ghost use Rattle.plan.specs.declared.Planned.TheVariants.{Goes};
-ghost use Rattle.plan.specs.Plan.{course_of};
-ghost use Rattle.settle.specs.Settle.{verdict_of, settled_of, Carries};
+ghost use Rattle.plan.specs.Plan.{Goes, course_of};
+ghost use Rattle.settle.specs.Settle.{settled_of, Carries};
+ghost use Rattle.settle.specs.Answered.{verdict_in, settled_in};
 ghost use Rattle.settle.specs.Runs.{Runs};
 
+use drops::Dropped;
 use ledger::{CELLS, CREDIT, SINCE, UNITS};
-use plan::Course;
+use plan::enter::Entrant;
+use plan::{Arrival, Course, Policer, course_on};
 use ports::Sending;
-use spend::Meter;
+use spend::{Held, Meter, spend};
 
+// Numbers, since `places::put` and `flat_answers::flat_verdict` answer for a verdict of any number.
 #[derive(Clone, Copy)]
 pub enum Verdict {
     Refused(u32),
@@ -25,109 +29,79 @@ pub enum Verdict {
     Sent(Sending),
 }
 
-// One meter's credit and time, and one partition's units.
-#[derive(Clone, Copy)]
-pub struct Held {
-    pub credit: u64,
-    pub since: u64,
-    pub units: u64,
-}
+// What the steps answer, as a verdict.
+impl From<Result<Sending, Dropped>> for Verdict {
+    ghost from_gives = { λ outcome verdict. verdict ≡ verdict_in outcome };
 
-// The verdict, and the cells as it leaves them.
-#[derive(Clone, Copy)]
-pub struct Settled {
-    pub verdict: Verdict,
-    pub held: Held,
-}
-
-fn verdict_of(sending: Sending, drop: u32) -> Verdict
-    ensures { result ≡ verdict_of sending drop }
-{
-    if drop == 0 {
-        return Verdict::Sent(sending);
+    #[inline(always)]
+    fn from(outcome: Result<Sending, Dropped>) -> Verdict {
+        match outcome {
+            Ok(sending) => Verdict::Sent(sending),
+            Err(drop) => Verdict::Drop(u32::from(drop)),
+        }
     }
-    Verdict::Drop(drop)
 }
 
-// Steps 9 to 11 on numbers.
-pub fn settle(course: Course, held: Held, time: u64, octets: u64) -> Settled
+// Steps 9 to 11 on numbers: the sending or the drop, and the cells as it leaves them.
+#[inline(always)]
+pub fn settle(
+    course: Course,
+    held: Held,
+    time: u64,
+    octets: u64,
+) -> (Result<Sending, Dropped>, Held)
     requires runs { Runs course }
     requires octets_bound { octets < 65536 }
-    ensures { result ≡ settled_of course held time octets }
+    ensures { settled_in result.0 result.1 ≡ settled_of course held time octets }
 {
-    let sending = course.sending;
-    let m = Meter {
+    let meter = Meter {
         smax: course.smax,
         rate: course.rate,
         credit: held.credit,
         since: held.since,
     };
-    let s = spend::spend(m, time, held.units, octets, sending.ports);
-    let after = Held {
-        credit: s.credit,
-        since: s.since,
-        units: s.units,
-    };
-    Settled {
-        verdict: verdict_of(sending, s.drop),
-        held: after,
-    }
+    let (spent, after) = spend(meter, time, held.units, octets, course.sending.ports);
+    (spent.and(Ok(course.sending)), after)
 }
 
-fn run(row: &mut [u64; CELLS], course: Course, time: u64, octets: u64) -> Verdict
+#[tactic(auto, using(crate::specs::Laws::runs_as))]
+#[inline(always)]
+fn run(row: &mut [u64; CELLS], course: Course, time: u64, octets: u64) -> Result<Sending, Dropped>
     requires runs { Runs course }
     requires octets_bound { octets < 65536 }
-    ensures { Carries row.old time octets (Goes course) result row.new }
+    ensures { Carries row.old time octets (Goes course) (verdict_in result) row.new }
 {
     let credit = CREDIT + course.meter;
     let since = SINCE + course.meter;
     let units = UNITS + course.partition;
-    let s = settle(
-        course,
-        Held {
-            credit: row[credit],
-            since: row[since],
-            units: row[units],
-        },
-        time,
-        octets,
-    );
-    let after = s.held;
+    let held = Held {
+        credit: row[credit],
+        since: row[since],
+        units: row[units],
+    };
+    let (outcome, after) = settle(course, held, time, octets);
     row[units] = after.units;
     row[credit] = after.credit;
     row[since] = after.since;
-    s.verdict
+    outcome
 }
 
-// Steps 9 to 11 on a VLAN, of a frame or of a replica that entry `policer` lets through: its course, run.
+// Steps 9 to 11 on a VLAN, of a frame or of a replica that a policer lets through: its course, run.
+#[tactic(auto, using(crate::specs::RunsLaws::course_runs, crate::specs::Laws::carries_as))]
+#[inline(always)]
 pub fn carry_on(
     image: &[u32],
     row: &mut [u64; CELLS],
-    port: usize,
-    time: u64,
-    octets: u64,
-    destination: u64,
-    vlan: u64,
-    place: usize,
-    priority: u64,
-    policer: usize,
-    meter: usize,
-) -> Verdict
+    arrival: Arrival,
+    entrant: Entrant,
+    policer: Policer,
+) -> Result<Sending, Dropped>
     requires sound { Sound image.now }
-    requires port_bound { (port < 5) × (place < count_of (image_in image.now) VlanLookup) × (priority < 8) }
-    requires policer_bound { (policer < count_of (image_in image.now) Policing) × (meter < count_of (image_in image.now) Policing) }
-    requires octets_bound { octets < 65536 }
-    ensures { Carries row.old time octets (Goes (course_of (image_in image.now) port destination vlan place priority policer meter)) result row.new }
+    requires port_bound { (arrival.port < 5) × (entrant.place < count_of (image_in image.now) VlanLookup) × (entrant.priority < 8) }
+    requires policer_bound { (policer.entry < count_of (image_in image.now) Policing) × (policer.meter < count_of (image_in image.now) Policing) }
+    requires octets_bound { arrival.octets < 65536 }
+    ensures { Carries row.old arrival.time arrival.octets (Goes (course_of (image_in image.now) arrival.port arrival.destination entrant.vlan entrant.place entrant.priority policer.entry policer.meter)) (verdict_in result) row.new }
 {
-    let course = plan::course_on(
-        image,
-        port,
-        destination,
-        vlan,
-        place,
-        priority,
-        policer,
-        meter,
-    );
-    run(row, course, time, octets)
+    let course = course_on(image, arrival, entrant, policer);
+    run(row, course, arrival.time, arrival.octets)
 }

@@ -10,14 +10,11 @@ use spend::Counts;
 pub fn is_drop(verdict: Verdict) -> bool
     ensures { result ≡ is_drop verdict }
 {
-    match verdict {
-        Verdict::Refused(_) => false,
-        Verdict::Drop(_) => true,
-        Verdict::Sent(_) => false,
-    }
+    matches!(verdict, Verdict::Drop(_))
 }
 
 // The last time and the port's counts after a verdict.
+#[tactic(auto, unfolding(crate::specs::Note::noted))]
 pub fn note(row: &mut [u64; CELLS], port: usize, time: u64, octets: u64, drop: bool)
     requires countable { Countable row.old port }
     requires port_bound { (port < 5) × (octets < 65536) }

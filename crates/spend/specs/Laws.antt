@@ -4,9 +4,8 @@ use Rattle.std.proofs.Common.{sym, ◌∙◌, ap, subst, le_of_lt, add-zero, mul
 use Rattle.std.proofs.Math.Nat.{min-eq_left, min-eq_right}
 use Rattle.laws.specs.Chain.{hit_lt, pass_lt}
 use Rattle.spend.specs.declared.Counts.{Counts}
-use Rattle.spend.specs.declared.Spent.{Spent}
 use Rattle.spend.specs.Meter.{cost}
-use Rattle.spend.specs.Spend.{spent, paid_of, counted_of}
+use Rattle.spend.specs.Spend.{Spent, spent, paid_of, counted_of}
 use Rattle.spend.specs.Counting.{counts}
 
 module _ (full old elapsed gain : ℕ) where

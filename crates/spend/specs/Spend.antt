@@ -1,9 +1,15 @@
 -- Drops 9, 10 and 11 and what each verdict leaves in one meter, one partition and one port's counts (document 01, steps 9 to 11).
 use Rattle.std.specs.Prelude.{Bool, cond, ℕ, ◌+◌, ◌-◌, ltb, eqb}
 use Rattle.spend.specs.declared.Meter.{Meter}
-use Rattle.spend.specs.declared.Spent.{Spent}
 use Rattle.spend.specs.declared.Counts.{Counts}
 use Rattle.spend.specs.Meter.{refilled, cost}
+
+-- the verdict's number, 0 for sent, and the credit, the time and the units that are left
+pub record Spent : Type 0 where
+  pub drop : ℕ
+  pub credit : ℕ
+  pub since : ℕ
+  pub units : ℕ
 
 -- what a sent frame of L octets takes of its partition
 abbrev pub units_of : ℕ → ℕ

@@ -3,6 +3,9 @@
 
 ghost use Rattle.std.specs.Prelude.{◌≡◌, ◌+◌, ◌-◌, ◌*◌, ◌<◌, ◌≤◌, min};
 ghost use Rattle.spend.specs.Spend.{credit_at, paid_of, spent_of, counted_of};
+ghost use Rattle.spend.specs.Answered.{spent_in};
+
+use drops::Dropped;
 
 // Millionths of a bit in an octet, and those that a RATE of 1 gains in a µs.
 const MILLIONTHS: u64 = 8000000;
@@ -18,10 +21,9 @@ pub struct Meter {
     pub since: u64,
 }
 
-// A verdict's number, 0 for sent, with the meter and the partition as it leaves them.
+// One meter's credit and time, and one partition's units.
 #[derive(Clone, Copy)]
-pub struct Spent {
-    pub drop: u32,
+pub struct Held {
     pub credit: u64,
     pub since: u64,
     pub units: u64,
@@ -36,29 +38,11 @@ pub struct Counts {
     pub dropped: u64,
 }
 
-// Credit after `elapsed` steps of `gain`, at most `full`. The product may pass 64 bits, so the steps up to full are counted first.
+// Credit after `elapsed` steps of `gain`, at most `full`. A product or a sum that passes 64 bits is above `full` too.
 fn grown(full: u64, old: u64, elapsed: u64, gain: u64) -> u64
     ensures { (result ≡ min full (old + elapsed * gain)) × (result ≤ full) }
 {
-    if full <= old {
-        return full;
-    }
-    if gain == 0 {
-        return old;
-    }
-    if (full - old) / gain < elapsed {
-        return full;
-    }
-    old + elapsed * gain
-}
-
-fn elapsed(now: u64, since: u64) -> u64
-    ensures { result ≡ now - since }
-{
-    if now < since {
-        return 0;
-    }
-    now - since
+    old.saturating_add(elapsed.saturating_mul(gain)).min(full)
 }
 
 // The meter's credit at `now`.
@@ -69,73 +53,64 @@ fn credit_at(m: Meter, now: u64) -> u64
     grown(
         m.smax * MILLIONTHS,
         m.credit,
-        elapsed(now, m.since),
+        now.saturating_sub(m.since),
         m.rate * STEP,
     )
 }
 
-// Drops 10 and 11, and sent.
-fn paid(credit: u64, now: u64, units: u64, octets: u64, ports: u64) -> Spent
-    ensures { result ≡ paid_of credit now units octets ports }
+// Steps 10 and 11 of a frame of `octets` that is paid for.
+#[tactic(auto, unfolding(crate::specs::Spend::paid_of))]
+fn paid(credit: u64, now: u64, units: u64, octets: u64, ports: u64) -> (Result<(), Dropped>, Held)
+    ensures { spent_in result.0 result.1 ≡ paid_of credit now units octets ports }
 {
-    if ports == 0 {
-        return Spent {
-            drop: 10,
-            credit,
-            since: now,
-            units,
-        };
-    }
-    if units < 1 {
-        return Spent {
-            drop: 11,
-            credit,
-            since: now,
-            units,
-        };
-    }
-    Spent {
-        drop: 0,
+    let held = Held {
         credit,
         since: now,
-        units: units - 1,
+        units,
+    };
+    if ports == 0 {
+        return (Err(Dropped::NoPort), held);
     }
+    if units < 1 {
+        return (Err(Dropped::NoUnit), held);
+    }
+    (
+        Ok(()),
+        Held {
+            units: units - 1,
+            ..held
+        },
+    )
 }
 
-// Drop 9, then the rest.
-pub fn spend(m: Meter, now: u64, units: u64, octets: u64, ports: u64) -> Spent
+// Step 9, then the rest: whether the frame is sent, with the meter and the partition as it leaves them.
+#[tactic(auto, unfolding(crate::specs::Spend::spent_of))]
+pub fn spend(m: Meter, now: u64, units: u64, octets: u64, ports: u64) -> (Result<(), Dropped>, Held)
     requires { (m.smax < 65536) × (m.rate < 65536) × (octets < 65536) }
-    ensures { result ≡ spent_of m now units octets ports }
+    ensures { spent_in result.0 result.1 ≡ spent_of m now units octets ports }
 {
     let credit = credit_at(m, now);
     if credit < octets * MILLIONTHS {
-        return Spent {
-            drop: 9,
+        let held = Held {
             credit,
             since: now,
             units,
         };
+        return (Err(Dropped::NoCredit), held);
     }
     paid(credit - octets * MILLIONTHS, now, units, octets, ports)
 }
 
 // What a verdict adds to its port's counts.
+#[tactic(auto, unfolding(crate::specs::Spend::counted_of))]
 pub fn counted(n: Counts, octets: u64, dropped: bool) -> Counts
     requires { (n.frames < 4294967295) × (n.drops ≤ n.frames) × (n.octets ≤ 4100 * n.frames) × (n.dropped ≤ n.octets) × (octets < 65536) }
     ensures { result ≡ counted_of n octets dropped }
 {
-    if dropped {
-        return Counts {
-            frames: n.frames + 1,
-            drops: n.drops + 1,
-            octets: n.octets + octets,
-            dropped: n.dropped + octets,
-        };
-    }
     Counts {
         frames: n.frames + 1,
-        drops: n.drops,
+        drops: n.drops + u64::from(dropped),
         octets: n.octets + octets,
-        dropped: n.dropped,
+        dropped: n.dropped + if dropped { octets } else { 0 },
     }
 }

@@ -1,7 +1,5 @@
 -- What a function leaves, carried over to an equal machine, and back.
-use mathlib.Core.Path.{◌≡◌, ◌∙◌, ap}
-use mathlib.Core.List.{List}
-use Prim.Native.Nat.{ℕ}
+use Rattle.std.proofs.Common.{◌≡◌, ◌∙◌, ap, List, ℕ}
 use Rattle.stream.specs.Machine.{Machine, at}
 use Rattle.stream.specs.declared.Load.{Load}
 use Rattle.stream.specs.Leaves.{Leaves}

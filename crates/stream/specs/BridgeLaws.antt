@@ -13,17 +13,14 @@ use Rattle.crc.specs.Crc.{word_in, words_in, start, finished, checksum}
 use Rattle.crc.proofs.Laws.{words_in_append}
 use Rattle.image.specs.Rows.{Row, rows, room, before, index_of, table_count, row_of, size_of, most_of, start_of}
 use Rattle.image.specs.RowLaws.{size_positive, room_inside, same_place}
-use Rattle.image.specs.Blocks.{block_of}
+use Rattle.image.specs.Blocks.{Block, block_of}
 use Rattle.image.specs.Layout.{image_words, entry_words, state_words, image_in, padded, entries_from, counts_from, state, layout, list_of, count_of, cleared, counted, marked}
 use Rattle.image.specs.Images.{length_layout, layout_count}
 use Rattle.image.specs.declared.tables.Table.{Table}
-use Rattle.image.specs.declared.tables.Block.{Block}
 use Rattle.rules.specs.Rules.{ruled}
-use Rattle.stream.specs.Header.{device, id_of, length_of, header_of}
+use Rattle.stream.specs.Header.{Header, Wrong, Right, device, id_of, length_of, header_of}
 use Rattle.stream.specs.Passes.{Passes}
 use Rattle.stream.specs.Headers.{right, passes_room, whole_entries, same_header}
-use Rattle.stream.specs.declared.Header.{Header}
-use Rattle.stream.specs.declared.Header.TheVariants.{Wrong, Right}
 use Rattle.stream.specs.Paper.{Framed, refused, passed, none, put, had, headed_by, checked, blocks, framed}
 use Rattle.stream.specs.Machine.{Machine, at, fresh, idle, headed, sized, filling, told, refuse, had_in, place_in, finish, begins, step, run, answer_of}
 use Rattle.stream.specs.Stored.{put_same, put_other, layout_put}

@@ -8,9 +8,7 @@ use Rattle.image.specs.Layout.{image_words, image_in, cleared, marked}
 use Rattle.image.specs.Loaded.{too_short}
 use Rattle.image.specs.Blocks.{block_of}
 use Rattle.rules.specs.Rules.{ruled}
-use Rattle.stream.specs.Header.{device, id_of, length_of, header_of}
-use Rattle.stream.specs.declared.Header.{Header}
-use Rattle.stream.specs.declared.Header.TheVariants.{Wrong, Right}
+use Rattle.stream.specs.Header.{Header, Wrong, Right, device, id_of, length_of, header_of}
 use Rattle.stream.specs.Paper.{framed}
 use Rattle.stream.specs.Machine.{Machine, at, fresh, begins, had_in, step_in, step, run, begun, damaged, outside, Written, written, untouched, opened, wrote}
 use Rattle.stream.specs.Runs.{run_append}

@@ -17,10 +17,8 @@ use Rattle.image.specs.SoundLaws.{within_limits, limits_within}
 use Rattle.image.specs.declared.tables.Table.{Table}
 use Rattle.rules.specs.Rules.{ruled}
 use Rattle.crc.specs.Crc.{word_in}
-use Rattle.stream.specs.Header.{device, id_of, length_of, header_of}
+use Rattle.stream.specs.Header.{Header, Wrong, Right, device, id_of, length_of, header_of}
 use Rattle.stream.specs.Headers.{right, passes_room}
-use Rattle.stream.specs.declared.Header.{Header}
-use Rattle.stream.specs.declared.Header.TheVariants.{Wrong, Right}
 use Rattle.stream.specs.Machine.{Machine, at, told, refuse, had_in, place_in, finish, begins, summed, filled, step_in, step, run, begun, overdue_in, damaged}
 use Rattle.stream.specs.Runs.{had_kept}
 use Rattle.stream.specs.declared.Phase.{Phase}

@@ -1,6 +1,7 @@
 -- Loading: the paper's form, the machine's form, and the bridge between them.
 pub mod Answers
 pub mod AnswersLaws
+pub mod Faults
 pub mod Header
 pub mod Paper
 pub mod Machine

@@ -8,9 +8,7 @@ use Rattle.image.specs.Loaded.{too_short, over_limit}
 use Rattle.image.specs.declared.tables.Table.{Table}
 use Rattle.image.specs.declared.tables.Table.TheVariants.{AddressLookup}
 use Rattle.rules.specs.Rules.{ruled}
-use Rattle.stream.specs.Header.{device, id_of, length_of, header_of}
-use Rattle.stream.specs.declared.Header.{Header}
-use Rattle.stream.specs.declared.Header.TheVariants.{Wrong, Right}
+use Rattle.stream.specs.Header.{Header, Wrong, Right, device, id_of, length_of, header_of}
 use Rattle.stream.specs.Paper.{numbered}
 use Rattle.stream.specs.declared.Answer.{Answer}
 use Rattle.stream.specs.declared.Answer.TheVariants.{More, Refused}

@@ -1,11 +1,10 @@
 -- Blocks as pieces, laid one after the other in any order and cut between entries, and what they bring to each table.
-use Rattle.std.specs.Prelude.{◌≡◌, Bool, false, cond, List, [], ◌∷◌, ◌++◌, ℕ, ◌%◌, ◌<◌, eqb, length}
+use Rattle.std.specs.Prelude.{◌≡◌, Bool, false, cond, List, [], ◌∷◌, ◌++◌, ℕ, ◌%◌, ◌<◌, eqb, length, Ok, Err}
 use Rattle.crc.specs.Crc.{checksum}
 use Rattle.image.specs.Rows.{index_of, size_of}
-use Rattle.image.specs.Blocks.{block_of}
+use Rattle.image.specs.Blocks.{Block, block_of}
 use Rattle.image.specs.declared.tables.Table.{Table}
-use Rattle.image.specs.declared.tables.Block.{Block}
-use Rattle.image.specs.declared.tables.Block.TheVariants.{Carried, NotCarried, Unknown}
+use Rattle.image.specs.declared.tables.NoTable.TheVariants.{NotCarried, Unknown}
 use Rattle.stream.specs.Header.{device, id_of, length_of}
 use Rattle.stream.specs.Paper.{put}
 
@@ -35,7 +34,7 @@ streamed ps e0 e1 = device ∷ laid (device ∷ []) ps e0 e1
 -- a block of whole entries of a table that is carried, its length told
 pub record Proper (p : Piece) : Type 0 where
   pub table : Table
-  pub named : block_in p ≡ Carried table
+  pub named : block_in p ≡ Ok table
   pub some : 0 < length p.words
   pub told : length_of p.second ≡ length p.words
   pub whole : length p.words % size_of table ≡ 0
@@ -46,9 +45,9 @@ All (p ∷ ps) = Proper p × All ps
 
 -- is a block this table's?
 abbrev pub is_of : Table → Block → Bool
-is_of t (Carried u) = eqb (index_of t) (index_of u)
-is_of t NotCarried = false
-is_of t Unknown = false
+is_of t (Ok u) = eqb (index_of t) (index_of u)
+is_of t (Err NotCarried) = false
+is_of t (Err Unknown) = false
 
 -- what blocks bring to a table: its words in the order in which they come
 unfoldable pub brings : Table → List Piece → List ℕ
@@ -57,9 +56,9 @@ brings t (p ∷ ps) = cond (is_of t (block_in p)) (p.words ++ brings t ps) (brin
 
 -- a block's words put to its table's list
 abbrev pub put_to : List (List ℕ) → Block → List ℕ → List (List ℕ)
-put_to lists (Carried t) words = put lists t words
-put_to lists NotCarried words = lists
-put_to lists Unknown words = lists
+put_to lists (Ok t) words = put lists t words
+put_to lists (Err NotCarried) words = lists
+put_to lists (Err Unknown) words = lists
 
 -- the lists after some blocks
 unfoldable pub after : List (List ℕ) → List Piece → List (List ℕ)

@@ -1,5 +1,5 @@
 -- Every order: blocks with right checksums, cut between entries and laid in any order, pass with exactly the lists that they bring.
-use Rattle.std.specs.Prelude.{◌≡◌, refl, Bool, cond, not, List, [], ◌∷◌, ◌++◌, ℕ, zero, suc, ◌+◌, ◌*◌, ◌/◌, ◌<◌, ◌≤◌, eqb, length, get_or, take, drop}
+use Rattle.std.specs.Prelude.{◌≡◌, refl, Bool, cond, not, List, [], ◌∷◌, ◌++◌, ℕ, zero, suc, ◌+◌, ◌*◌, ◌/◌, ◌<◌, ◌≤◌, eqb, length, get_or, take, drop, Ok, Err}
 use Rattle.std.proofs.Common.{sym, ◌∙◌, ap, subst, append_assoc, append-nil, zero-add, le_refl, le_trans, lt_irrefl, le_of_suc-le-suc, not-suc-le-zero, mul_comm, add-mul, le_of_mul-le-mul_right, add_assoc, arith, length-append, length-set, take_at, drop_at, ext_get_or, eq-eqb, ne_eqb}
 use Rattle.std.proofs.Math.Decide.{ℕ_discrete}
 use Rattle.laws.specs.Chain.{pass}
@@ -8,13 +8,11 @@ use Rattle.image.specs.Rows.{index_of, table_count, row_at, row_of, room, size_o
 use Rattle.image.specs.RowLaws.{size_positive, same_place, place_of_row}
 use Rattle.image.specs.Layout.{list_of}
 use Rattle.image.specs.declared.tables.Table.{Table}
-use Rattle.image.specs.declared.tables.Block.{Block}
-use Rattle.image.specs.declared.tables.Block.TheVariants.{Carried, NotCarried, Unknown}
-use Rattle.stream.specs.Header.{device, length_of, header_of}
+use Rattle.image.specs.Blocks.{Block}
+use Rattle.image.specs.declared.tables.NoTable.TheVariants.{NotCarried, Unknown}
+use Rattle.stream.specs.Header.{Header, Right, device, length_of, header_of}
 use Rattle.stream.specs.Passes.{Passes}
 use Rattle.stream.specs.Headers.{not_wrong, whole_entries}
-use Rattle.stream.specs.declared.Header.{Header}
-use Rattle.stream.specs.declared.Header.TheVariants.{Right}
 use Rattle.stream.specs.Paper.{Framed, refused, passed, none, put, had, headed_by, checked, blocks, framed}
 use Rattle.stream.specs.Stored.{put_same, put_other}
 use Rattle.stream.specs.Bridge.{Sound}
@@ -22,13 +20,13 @@ use Rattle.stream.specs.BridgeLaws.{nothing, sound_none, sound_put}
 use Rattle.stream.specs.Order.{Piece, block_in, sent, laid, streamed, Proper, All, is_of, brings, put_to, after}
 
 -- ---- what a block brings to its own table, and to another
-brings_own : (p : Piece) (ps : List Piece) (t : Table) → block_in p ≡ Carried t → brings t (p ∷ ps) ≡ p.words ++ brings t ps
+brings_own : (p : Piece) (ps : List Piece) (t : Table) → block_in p ≡ Ok t → brings t (p ∷ ps) ≡ p.words ++ brings t ps
 unfolding brings
 brings_own p ps t e =
     ap (λ (b : Block). cond (is_of t b) (p.words ++ brings t ps) (brings t ps)) e
     ∙ ap (λ (x : Bool). cond x (p.words ++ brings t ps) (brings t ps)) (eq-eqb (index_of t) (index_of t) refl)
 
-brings_other : (p : Piece) (ps : List Piece) (t u : Table) → block_in p ≡ Carried t → (index_of u ≡ index_of t → ⊥) → brings u (p ∷ ps) ≡ brings u ps
+brings_other : (p : Piece) (ps : List Piece) (t u : Table) → block_in p ≡ Ok t → (index_of u ≡ index_of t → ⊥) → brings u (p ∷ ps) ≡ brings u ps
 unfolding brings
 brings_other p ps t u e ne =
     ap (λ (b : Block). cond (is_of u b) (p.words ++ brings u ps) (brings u ps)) e
@@ -174,9 +172,9 @@ ordered ps e0 e1 all fits end =
 
 -- ---- the lists are what the blocks bring, whatever their order
 length_put : (lists : List (List ℕ)) (b : Block) (ws : List ℕ) → length (put_to lists b ws) ≡ length lists
-length_put lists (Carried t) ws = length-set lists (index_of t) _
-length_put lists NotCarried ws = refl
-length_put lists Unknown ws = refl
+length_put lists (Ok t) ws = length-set lists (index_of t) _
+length_put lists (Err NotCarried) ws = refl
+length_put lists (Err Unknown) ws = refl
 
 length_after : (lists : List (List ℕ)) (ps : List Piece) → length (after lists ps) ≡ length lists
 unfolding after
@@ -186,9 +184,9 @@ length_after lists (p ∷ ps) = length_after (put_to lists (block_in p) p.words)
 -- one block more
 put_brings : (lists : List (List ℕ)) (t : Table) (b : Block) (ws more : List ℕ) → length lists ≡ table_count
     → list_of (put_to lists b ws) t ++ more ≡ list_of lists t ++ cond (is_of t b) (ws ++ more) more
-put_brings lists t NotCarried ws more h = refl
-put_brings lists t Unknown ws more h = refl
-put_brings lists t (Carried u) ws more h = decide (ℕ_discrete (index_of t) (index_of u))
+put_brings lists t (Err NotCarried) ws more h = refl
+put_brings lists t (Err Unknown) ws more h = refl
+put_brings lists t (Ok u) ws more h = decide (ℕ_discrete (index_of t) (index_of u))
   where
     decide : Dec (index_of t ≡ index_of u) → list_of (put lists u ws) t ++ more ≡ list_of lists t ++ cond (eqb (index_of t) (index_of u)) (ws ++ more) more
     decide (yes e) =

@@ -9,9 +9,7 @@ use Rattle.rules.specs.Rules.{ruled}
 use Rattle.image.specs.Loaded.{too_short}
 use Rattle.stream.specs.declared.Answer.{Answer}
 use Rattle.stream.specs.declared.Answer.TheVariants.{Loaded, Refused}
-use Rattle.stream.specs.Header.{device, id_of, length_of, header_of}
-use Rattle.stream.specs.declared.Header.{Header}
-use Rattle.stream.specs.declared.Header.TheVariants.{Wrong, Right}
+use Rattle.stream.specs.Header.{Header, Wrong, Right, device, id_of, length_of, header_of}
 
 -- what the framing rules make of a stream: refused with a number, cut before its end block is complete, or passed with each table's words
 pub data Framed : Type 0 where

@@ -2,8 +2,7 @@
 use Rattle.std.specs.Prelude.{◌≡◌, refl}
 use Rattle.image.specs.Blocks.{block_of}
 use Rattle.image.specs.declared.tables.Table.TheVariants.{VlanLookup, Retagging}
-use Rattle.stream.specs.declared.Header.TheVariants.{Wrong, Right}
-use Rattle.stream.specs.Header.{header_of}
+use Rattle.stream.specs.Header.{Wrong, Right, header_of}
 
 -- (c) length 3: 5
 pub row_c : header_of (block_of 0x07) 3 (λ t. 0) ≡ Wrong 5

@@ -36,13 +36,7 @@ pub fn told(n: u32) -> Load
 {
     Load {
         phase: Phase::Told(n),
-        table: Table::AddressLookup,
-        placed: 0,
-        due: 0,
-        first: 0,
-        second: 0,
-        stream: 0,
-        block: 0,
+        ..fresh()
     }
 }
 
@@ -51,13 +45,8 @@ pub fn idle(stream: u32) -> Load
 {
     Load {
         phase: Phase::Id,
-        table: Table::AddressLookup,
-        placed: 0,
-        due: 0,
-        first: 0,
-        second: 0,
         stream,
-        block: 0,
+        ..fresh()
     }
 }
 
@@ -66,13 +55,9 @@ pub fn headed(stream: u32, first: u32) -> Load
 {
     Load {
         phase: Phase::Length,
-        table: Table::AddressLookup,
-        placed: 0,
-        due: 0,
         first,
-        second: 0,
         stream,
-        block: 0,
+        ..fresh()
     }
 }
 
@@ -81,13 +66,10 @@ pub fn sized(stream: u32, first: u32, second: u32) -> Load
 {
     Load {
         phase: Phase::Sum,
-        table: Table::AddressLookup,
-        placed: 0,
-        due: 0,
         first,
         second,
         stream,
-        block: 0,
+        ..fresh()
     }
 }
 
@@ -99,14 +81,13 @@ pub fn filling(table: Table, placed: usize, due: usize, stream: u32, block: u32)
         table,
         placed,
         due,
-        first: 0,
-        second: 0,
         stream,
         block,
+        ..fresh()
     }
 }
 
-// An answer by its number.
+// An answer by its number: a function, since every number has one.
 pub fn numbered(n: u32) -> Answer
     ensures { result ≡ numbered n }
 {
@@ -121,26 +102,15 @@ pub fn answer_of(phase: Phase) -> Answer
     ensures { result ≡ answer_of phase }
 {
     match phase {
-        Phase::Device => Answer::More,
-        Phase::Id => Answer::More,
-        Phase::Length => Answer::More,
-        Phase::Sum => Answer::More,
-        Phase::Data => Answer::More,
         Phase::Told(n) => numbered(n),
+        _ => Answer::More,
     }
 }
 
 pub fn is_begun(phase: Phase) -> bool
     ensures { result ≡ begun phase }
 {
-    match phase {
-        Phase::Device => false,
-        Phase::Id => true,
-        Phase::Length => true,
-        Phase::Sum => true,
-        Phase::Data => true,
-        Phase::Told(_) => true,
-    }
+    phase != Phase::Device
 }
 
 pub fn refuse(image: &mut [u32], n: u32) -> Load

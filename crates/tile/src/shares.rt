@@ -11,13 +11,6 @@ pub enum Tile {
     Shares(f64, f64),
 }
 
-// A tile, or the number of what refuses the call.
-#[derive(Clone, Copy)]
-pub enum Asked {
-    Refused(u32),
-    Shown(Tile),
-}
-
 // A count as a float: without loss up to 2^53, which no judged ledger passes; a larger one rounds to the nearest.
 fn as_float(n: u64) -> f64
     ensures { result ≡ of_int binary64 (pos n) }

@@ -9,7 +9,7 @@ use row::release::release;
 use std::io;
 use std::io::{Read, Write};
 
-// One byte more than the most bytes, so that a list that is too long shows.
+// One byte more than the most bytes, so that a list that is too long shows. A fixed buffer: no memory is asked for here.
 const MOST: usize = 16385;
 
 // Each record in turn, and what it tells, a frame's replicas right behind it; the row is brought up to date by each. What is left of the walk ends it.
@@ -60,7 +60,8 @@ pub fn walk<R: Read, W: Write>(input: &mut R, out: &mut W, image: &[u32]) -> io:
     let mut list = [0u8; MOST];
     let filled = fill(input, &mut list);
     let mut cells = [0u64; CELLS];
-    fresh_ledger(image, &mut cells);
+    // Of a loaded image it is never refused; were it, 39 would refuse each record.
+    let _ = fresh_ledger(image, &mut cells);
     let mut places = [0u64; PLACES];
     records_of(
         out,

@@ -16,8 +16,7 @@ fn main(rt: HostRuntime) -> io::Result<()> {
     let length = rt.arg(1, &mut argument).unwrap_or(0);
     let path = str::from_utf8(&argument[..length]).unwrap_or("");
     let mut image = [0u32; IMAGE_WORDS];
-    let number = file::load(&rt, path, &mut image);
-    if number != 0 {
+    if let Err(number) = file::load(&rt, path, &mut image) {
         return print::config_refused(&mut io::writer(&rt), number);
     }
     println!(rt; "config loaded")?;

@@ -1,13 +1,13 @@
-// What is printed: a function for each kind of line.
+// What is printed: a function for each kind of line. Functions and no `Display`: a line names its record or its port, which the value does not have.
 ghost use Rattle.std.specs.Prelude.{◌+◌, ◌≤◌};
 
-use ledger::{Answer, CELLS, DROPS, FRAMES};
+use ledger::{CELLS, DROPS, FRAMES};
 use places::{PLACES, TEN};
 use records::Refusal;
 use settle::Verdict;
 use std::io;
 use std::io::Write;
-use tile::shares::{Asked, Tile};
+use tile::shares::Tile;
 
 // As many replicas as there are places.
 const MOST_REPLICAS: usize = 32;
@@ -29,14 +29,32 @@ pub fn list_refused<W: Write>(out: &mut W, why: Refusal) -> io::Result<()> {
     writeln!(out, "list refused {n}")
 }
 
+// A drop, of a frame or of a replica.
+fn dropped<W: Write>(out: &mut W, whose: &str, record: u64, n: u64) -> io::Result<()> {
+    writeln!(out, "{whose} {record} drop {n}")
+}
+
+// A sending, of a frame or of a replica: ports, VLAN, new priority, tags and the five queues.
+fn sent<W: Write>(out: &mut W, whose: &str, record: u64, numbers: [u64; 9]) -> io::Result<()> {
+    let [ports, vlan, priority, tags, a, b, c, d, e] = numbers;
+    writeln!(
+        out,
+        "{whose} {record} sent {ports} vlan {vlan} prio {priority} tags {tags} queues {a} {b} {c} {d} {e}"
+    )
+}
+
 pub fn verdict<W: Write>(out: &mut W, record: u64, v: Verdict) -> io::Result<()> {
     match v {
         Verdict::Refused(n) => refused(out, n),
-        Verdict::Drop(n) => writeln!(out, "frame {record} drop {n}"),
-        Verdict::Sent(s) => writeln!(
+        Verdict::Drop(n) => dropped(out, "frame", record, u64::from(n)),
+        Verdict::Sent(s) => sent(
             out,
-            "frame {record} sent {} vlan {} prio {} tags {} queues {} {} {} {} {}",
-            s.ports, s.vlan, s.priority, s.tags, s.queue0, s.queue1, s.queue2, s.queue3, s.queue4
+            "frame",
+            record,
+            [
+                s.ports, s.vlan, s.priority, s.tags, s.queue0, s.queue1, s.queue2, s.queue3,
+                s.queue4,
+            ],
         ),
     }
 }
@@ -47,12 +65,9 @@ fn replica<W: Write>(out: &mut W, record: u64, places: &[u64; PLACES], at: usize
 {
     let head = places[at];
     if head % 4294967296 == 1 {
-        let n = head >> 32;
-        return writeln!(out, "replica {record} drop {n}");
+        return dropped(out, "replica", record, head >> 32);
     }
-    writeln!(
-        out,
-        "replica {record} sent {} vlan {} prio {} tags {} queues {} {} {} {} {}",
+    let numbers = [
         places[at + 1],
         places[at + 2],
         places[at + 3],
@@ -61,8 +76,9 @@ fn replica<W: Write>(out: &mut W, record: u64, places: &[u64; PLACES], at: usize
         places[at + 6],
         places[at + 7],
         places[at + 8],
-        places[at + 9]
-    )
+        places[at + 9],
+    ];
+    sent(out, "replica", record, numbers)
 }
 
 // The replicas of a frame, right behind it, under its record's number.
@@ -78,10 +94,10 @@ pub fn replicas<W: Write>(
     Ok(())
 }
 
-pub fn released<W: Write>(out: &mut W, record: u64, a: Answer) -> io::Result<()> {
-    match a {
-        Answer::Refused(n) => refused(out, n),
-        Answer::Done => writeln!(out, "release {record} ok"),
+pub fn released<W: Write>(out: &mut W, record: u64, answer: Result<(), u32>) -> io::Result<()> {
+    match answer {
+        Err(n) => refused(out, n),
+        Ok(()) => writeln!(out, "release {record} ok"),
     }
 }
 
@@ -106,8 +122,8 @@ pub fn tiles<W: Write>(out: &mut W, image: &[u32], cells: &[u64; CELLS]) -> io::
     for port in 0..5 {
         write!(out, "tile {port} ")?;
         match tile::tile(image, cells, port) {
-            Asked::Refused(n) => refused(out, n)?,
-            Asked::Shown(tile) => shown(out, tile, cells[FRAMES + port], cells[DROPS + port])?,
+            Err(n) => refused(out, n)?,
+            Ok(tile) => shown(out, tile, cells[FRAMES + port], cells[DROPS + port])?,
         }
     }
     Ok(())

@@ -1,11 +1,9 @@
 -- Where a whole load begins and how it ends; and bytes, part by part.
-use mathlib.Core.Path.{◌≡◌, refl, sym, ◌∙◌, ap, subst}
-use mathlib.Core.Bool.{Bool, true, false}
-use mathlib.Core.List.{List, [], ◌∷◌, ◌++◌, append_assoc, append-nil}
-use Prim.Native.Nat.{ℕ, suc, ◌+◌, ◌-◌, ◌*◌, ◌%◌, ◌<◌, ◌≤◌}
-use native.Mathlib.Omega.{arith}
-use lib.ListN.{length, set, take, drop, length-drop}
-use lib.Seq.{drop-drop, take-suc-set}
+use Rattle.std.proofs.Common.{◌≡◌, refl, sym, ◌∙◌, ap, ap₂, subst, Bool, true, false, List, [], ◌∷◌, ◌++◌, append_assoc, append-nil, ℕ, suc, ◌+◌, ◌*◌, ◌/◌, ◌%◌, ◌<◌, ◌≤◌, arith, lit<, add-zero, length, get_or, set, take, drop, length-drop, get_or-take, get_or-drop, take-suc-set}
+use Rattle.std.proofs.lemmas.List.{drop-drop}
+use Rattle.std.specs.Int.{w32, from_be_bytes}
+use Rattle.std.specs.Simd.{first_chunks}
+use Rattle.crc.proofs.Chunks.{chunk_at}
 use Rattle.image.specs.Layout.{cleared}
 use Rattle.laws.specs.Chain.{hit, pass, hit_ne, pass_ne}
 use Rattle.image.specs.Loaded.{too_short}
@@ -40,6 +38,21 @@ pub started : (l : Load) (b buffer : List ℕ) → l ≡ fresh → b ≡ cleared
 started l b buffer e q = ap (λ (x : Load). at x b) e ∙ ap (λ (x : List ℕ). at fresh x) q
 
 -- ---- a whole load of bytes
+-- a piece of four bytes is the word at its place
+word_here : (bytes : List ℕ) (i : ℕ) → from_be_bytes w32 (take 4 (drop i bytes)) ≡ word_at bytes i
+word_here bytes i =
+    let in_four = λ (k : ℕ) (h : k < 4). get_or-take 4 (drop i bytes) k 0 h in
+    rw (in_four 0 (lit< tt), in_four 1 (lit< tt), in_four 2 (lit< tt), in_four 3 (lit< tt)) (simp (get_or-drop, add-zero) (omega arith))
+
+-- and the k-th of the pieces is the word behind k others
+pub word_in : (bytes : List ℕ) (fours : List (List ℕ)) (k n : ℕ) → fours ≡ first_chunks 4 (length bytes / 4) bytes → length fours ≡ length bytes / 4 → k < length fours
+    → n ≡ from_be_bytes w32 (get_or fours k []) → n ≡ word_at bytes (4 * k)
+word_in bytes fours k n e long h is =
+    is ∙ ap (λ (l : List (List ℕ)). from_be_bytes w32 (get_or l k [])) e
+    ∙ ap (λ (l : List ℕ). from_be_bytes w32 l) (chunk_at 4 (length bytes / 4) bytes k [] (rw long at h))
+    ∙ word_here bytes (k * 4)
+    ∙ ap (λ (i : ℕ). word_at bytes i) (omega arith)
+
 -- one more word has been taken apart
 pub chunk_on : (bytes words : List ℕ) (k w : ℕ) → 4 * k + 4 ≤ length bytes → k < length words → w ≡ word_at bytes (4 * k)
     → take (k + 1) (set words k w) ++ words_of (drop (4 * (k + 1)) bytes) ≡ take k words ++ words_of (drop (4 * k) bytes)
@@ -60,21 +73,19 @@ chunk_on bytes words k w h j e =
 pub chunk_end : (bytes words : List ℕ) (k : ℕ) → length bytes < 4 * k + 4 → 4 * k ≤ length bytes → take k words ++ words_of (drop (4 * k) bytes) ≡ take k words
 chunk_end bytes words k h j = ap (λ (l : List ℕ). take k words ++ l) (words_none bytes (4 * k) h j) ∙ append-nil (take k words)
 
--- what a part of n from i on holds
-pub part_of : (ws : List ℕ) (i n : ℕ) → take (i + n - i) (drop i ws) ≡ take n (drop i ws)
-part_of ws i n = ap (λ (k : ℕ). take k (drop i ws)) whole_part
-  where
-    whole_part : i + n - i ≡ n
-    whole_part = omega arith
-
--- the run goes on behind a part of whole words
-pub bytes_on : (m n : Machine) (bytes : List ℕ) (i : ℕ) → i + 1024 ≤ length bytes → n ≡ run m (words_of (take (i + 1024 - i) (drop i bytes)))
-    → run n (words_of (drop (i + 1024) bytes)) ≡ run m (words_of (drop i bytes))
-bytes_on m n bytes i h q =
-    ap (λ (x : Machine). run x (words_of (drop (i + 1024) bytes))) (q ∙ ap (λ (l : List ℕ). run m (words_of l)) (part_of bytes i 1024))
-    ∙ sym (run_append m (words_of (take 1024 (drop i bytes))) (words_of (drop (i + 1024) bytes)))
-    ∙ ap (λ (l : List ℕ). run m (words_of (take 1024 (drop i bytes)) ++ words_of l)) (sym (drop-drop 1024 i bytes))
-    ∙ ap (λ (l : List ℕ). run m l) (words_split 256 1024 (drop i bytes) refl (subst (λ (x : ℕ). 1024 ≤ x) (sym (length-drop i bytes)) (omega arith)))
+-- the run goes on behind a chunk of whole words
+pub bytes_on : (m n : Machine) (bytes : List ℕ) (chunks : List (List ℕ)) (many i : ℕ) → chunks ≡ first_chunks 1024 many bytes → length chunks ≡ many
+    → many ≡ length bytes / 1024 → i < length chunks → n ≡ run m (words_of (get_or chunks i []))
+    → run n (words_of (drop ((i + 1) * 1024) bytes)) ≡ run m (words_of (drop (i * 1024) bytes))
+bytes_on m n bytes chunks many i e long d h q =
+    let here : i < many = rw long at h in
+    let next : (i + 1) * 1024 ≡ i * 1024 + 1024 = omega arith in
+    let rest : List ℕ = drop (i * 1024) bytes in
+    let chunk : get_or chunks i [] ≡ take 1024 rest = ap (λ (l : List (List ℕ)). get_or l i []) e ∙ chunk_at 1024 many bytes i [] here in
+    let behind : drop ((i + 1) * 1024) bytes ≡ drop 1024 rest = ap (λ (k : ℕ). drop k bytes) next ∙ sym (drop-drop 1024 (i * 1024) bytes) in
+    ap₂ (λ (x : Machine) (l : List ℕ). run x (words_of l)) (q ∙ ap (λ (l : List ℕ). run m (words_of l)) chunk) behind
+    ∙ sym (run_append m (words_of (take 1024 rest)) (words_of (drop 1024 rest)))
+    ∙ ap (λ (l : List ℕ). run m l) (words_split 256 1024 rest refl (subst (λ (x : ℕ). 1024 ≤ x) (sym (length-drop (i * 1024) bytes)) (omega arith)))
 
 module _ (buffer bytes : List ℕ) (short : Bool) (e : short ≡ too_short buffer) where
   pub bytes_31 : short ≡ true → as_found 31 buffer ≡ loaded_bytes buffer bytes

@@ -1,64 +1,60 @@
-use mathlib.Core.Path.{◌≡◌, sym, ◌∙◌, ap}
-use Prim.Native.Nat.{ℕ, ◌+◌, ◌-◌, ◌≤◌}
-use native.Mathlib.Omega.{arith}
+use Rattle.std.proofs.Common.{◌≡◌, false, List, ℕ, ◌+◌, ◌-◌, ◌%◌, ◌<◌, ◌≤◌, true, sym, subst, le_antisymm, le_of_lt, zero-le, arith}
 use Rattle.laws.specs.Scan.{some_below}
-use Rattle.laws.specs.ScanLaws.{some_none}
+use Rattle.laws.specs.ScanLaws.{some_none, some_not, some_found, none_all}
 use Rattle.image.specs.Layout.{image_in, count_of}
 use Rattle.image.specs.declared.tables.Table.TheVariants.{AddressLookup}
-use Rattle.addresses.specs.Address.{bars}
-use Rattle.lookup.specs.GroupsLaws.{none_yet, none_up_to, some_rest, some_in}
+use Rattle.lookup.specs.Groups.{from}
+use Rattle.lookup.specs.GroupsLaws.{none_up_to}
+use Rattle.addresses.specs.Address.{like_address, bars}
 use Rattle.addresses.specs.LeadingLaws.{none_bar}
 use Rattle.addresses.proofs.barred.Goals as goal
 
--- a group of sixteen, and what is left, within the count
-module _ (i n m : ℕ) (e : n ≡ m) where
-  group : 16 ≤ n - i → i + 16 ≤ m
-  group h = omega arith
+-- none so far, and none of the entries that are passed over
+further : (image : List ℕ) (port vlan mac i r : ℕ) → i ≤ r → some_below i (bars image port vlan mac) ≡ false
+    → some_below (r - i) (from i (like_address image (mac % 268435456))) ≡ false
+    → some_below r (bars image port vlan mac) ≡ false
+further image port vlan mac i r l h none =
+    none_up_to (bars image port vlan mac) i r l h
+    (none_all (r - i) (from i (bars image port vlan mac)) (λ k m. none_bar image vlan mac i r none (i + k) (from_i k) (before_r k m) port))
+  where
+    from_i : (k : ℕ) → i ≤ i + k
+    from_i k = omega arith
 
-  rest : i ≤ n → i + (n - i) ≤ m
-  rest h = omega arith
+    before_r : (k : ℕ) → k < r - i → i + k < r
+    before_r k m = omega arith
 
-least : (n : ℕ) → 0 ≤ n
-least n = omega arith
-
-within : (i n : ℕ) → 16 ≤ n - i → i + 16 ≤ n
-within i n h = omega arith
-
-pub count-n-requires : goal.count-n-requires
-count-n-requires c = c.requires.image_words_in_bounds.0
-
-pub shared_learn-shared-requires : goal.shared_learn-shared-requires
-shared_learn-shared-requires c = let s = c.requires.image_words_in_bounds in (s.0, s.2)
-
-pub next_like-i-requires : goal.next_like-i-requires
-next_like-i-requires c = let s = c.requires.image_words_in_bounds in record { image_words_in_bounds = (s.0, s.1, c.key_of-key.ensures.1); n_value = (c.count-n.ensures.0, least _) }
+pub loop-group-init : goal.loop-group-init
+loop-group-init c = (zero-le, some_none _)
 
 pub loop-i-init : goal.loop-i-init
-loop-i-init c = let a = c.args in
-    let t = c.next_like-i.ensures in
-    let image = image_in a.image.now in
-    (t.1, none_up_to (bars image a.port a.vlan a.mac) 0 c.next_like-i.result t.0 (some_none _) (none_bar image a.vlan a.mac _ 0 _ c.key_of-key.ensures.0 t.2 a.port))
-
-pub returns-then-one_bars : goal.returns-then-one_bars
-returns-then-one_bars c = let l = c.loop-i in
+loop-i-init c = let s = c.new-search.ensures in
     let a = c.args in
-    sym (some_in (count_of (image_in a.image.now) AddressLookup) l.i 16 _ (omega arith) (sym c.one_bars.ensures ∙ c.if-one_bars.true))
+    let none : some_below (c.in-Some.group.start - c.loop-group.passed) (from c.loop-group.passed (like_address (image_in a.image.now) (a.mac % 268435456))) ≡ false =
+    cc (s.0, s.2, c.in-Some.ensures.3) in
+    further (image_in a.image.now) a.port a.vlan a.mac c.loop-group.passed c.in-Some.group.start c.in-Some.ensures.0 c.loop-group.invariant.1 none
 
-pub next_like-i-requires-in-loop-i : goal.next_like-i-requires-in-loop-i
-next_like-i-requires-in-loop-i c = let s = c.requires.image_words_in_bounds in record { image_words_in_bounds = (s.0, s.1, c.key_of-key.ensures.1); n_value = (c.count-n.ensures.0, within _ _ c.loop-i-test.true) }
+pub returns-then-bars : goal.returns-then-bars
+returns-then-bars c = let s = c.new-search in
+    let a = c.args in
+    let here : bars (image_in a.image.now) a.port a.vlan a.mac c.loop-i.i ≡ true = cc (s.ensures.0, s.ensures.1, s.ensures.2, c.bars.ensures, c.if-bars.true) in
+    sym (some_found _ c.loop-i.i _ (omega (arith, c.in-Some.ensures.2, s.ensures.3)) here)
 
 pub loop-i-preserved : goal.loop-i-preserved
-loop-i-preserved c = let l = c.loop-i in
+loop-i-preserved c = let s = c.new-search.ensures in
     let a = c.args in
-    let t = c.next_like-i-in-loop-i.ensures in
-    let image = image_in a.image.now in
-    let p = bars image a.port a.vlan a.mac in
-    (t.1, none_up_to p (l.i + 16) c.next_like-i-in-loop-i.result t.0 (none_yet p l.i 16 l.invariant.1 (sym c.one_bars.ensures ∙ c.if-one_bars.false)) (none_bar image a.vlan a.mac _ (l.i + 16) _ c.key_of-key.ensures.0 t.2 a.port))
+    let here : bars (image_in a.image.now) a.port a.vlan a.mac c.loop-i.i ≡ false = cc (s.0, s.1, s.2, c.bars.ensures, c.if-bars.false) in
+    some_not c.loop-i.i _ c.loop-i.invariant here
+
+pub loop-group-preserved : goal.loop-group-preserved
+loop-group-preserved c = (
+  c.in-Some.ensures.2,
+  subst (λ (n : ℕ). some_below n (bars (image_in c.args.image.now) c.args.port c.args.vlan c.args.mac) ≡ false) (le_antisymm (c.loop-i.auto.i-end (le_of_lt c.in-Some.ensures.1)) c.loop-i-test.false) c.loop-i.invariant,
+)
 
 pub returns : goal.returns
-returns c = let l = c.loop-i in
-    let n = c.count-n in
+returns c = let s = c.new-search.ensures in
     let a = c.args in
-    let p = bars (image_in a.image.now) a.port a.vlan a.mac in
-    let whole : l.i + (n.result - l.i) ≡ n.result = omega arith in
-    c.one_bars-2.ensures ∙ sym (some_rest (n.result - l.i) l.i p l.invariant.1) ∙ ap (λ (k : ℕ). some_below k p) (whole ∙ n.ensures.0)
+    let n = count_of (image_in a.image.now) AddressLookup in
+    let none : some_below (n - c.loop-group.passed) (from c.loop-group.passed (like_address (image_in a.image.now) (a.mac % 268435456))) ≡ false =
+    cc (s.0, s.2, s.3, c.in_default.ensures) in
+    sym (further (image_in a.image.now) a.port a.vlan a.mac c.loop-group.passed n (omega (arith, s.3, c.loop-group.invariant.0)) c.loop-group.invariant.1 none)

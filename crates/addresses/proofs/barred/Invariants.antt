@@ -1,14 +1,15 @@
--- `addresses::barred`: none of the entries that the loop has passed bars the source.
-use mathlib.Core.Path.{◌≡◌}
-use mathlib.Core.Bool.{false}
-use Prim.Native.Nat.{◌-◌, ◌≤◌}
+-- `addresses::barred`: none of the entries that the loops have passed bars the source.
+use Rattle.std.proofs.Common.{◌≡◌, false, ◌-◌, ◌≤◌}
 use Rattle.laws.specs.Scan.{some_below}
 use Rattle.image.specs.Layout.{image_in}
 use Rattle.addresses.specs.Address.{bars}
 use Rattle.addresses.proofs.barred.Given as goal
 
-abbrev pub invariant-loop-i : goal.invariant-loop-i
-invariant-loop-i l = (l.i ≤ l.n) × (some_below l.i (bars (image_in l.image) l.port l.vlan l.mac) ≡ false)
+abbrev pub invariant-loop-group : goal.invariant-loop-group
+invariant-loop-group l = (l.passed ≤ l.search.len) × (some_below l.passed (bars (image_in l.image) l.port l.vlan l.mac) ≡ false)
 
-abbrev pub decreases-loop-i : goal.decreases-loop-i
-decreases-loop-i l = l.n - l.i
+abbrev pub decreases-loop-group : goal.decreases-loop-group
+decreases-loop-group l = l.search.len - l.passed
+
+abbrev pub invariant-loop-i : goal.invariant-loop-i
+invariant-loop-i l = some_below l.i (bars (image_in l.image) l.port l.vlan l.mac) ≡ false

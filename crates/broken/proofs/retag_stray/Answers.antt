@@ -1,13 +1,8 @@
-use mathlib.Core.Path.{◌≡◌, sym, ◌∙◌}
-use mathlib.Core.Bool.{Bool, true, false}
-use mathlib.Core.List.{List}
-use Prim.Native.Nat.{ℕ, ◌+◌, ◌<◌}
-use borrow.Author.Rules.{rules}
+use Rattle.std.proofs.Common.{◌≡◌, sym, ◌∙◌, Bool, true, false, List, ℕ, ◌+◌, ◌<◌, rules}
 use Rattle.laws.specs.Chain.{lt_of}
 use Rattle.laws.specs.Scan.{some_below}
-use Rattle.laws.specs.ScanLaws.{some_none, some_not, some_found, some_end}
+use Rattle.laws.specs.ScanLaws.{some_none, some_not, some_found}
 use Rattle.image.specs.Layout.{count_of}
-use Rattle.image.specs.SoundLaws.{held}
 use Rattle.image.specs.declared.tables.Table.TheVariants.{Retagging}
 use Rattle.broken.specs.Broken.{stray, retag_stray}
 use Rattle.broken.proofs.retag_stray.Goals as goal
@@ -20,16 +15,10 @@ one_more : (image : List ℕ) (i : ℕ) (r : Bool) → r ≡ stray image i → r
 one_more image i r q t none = some_not i (stray image) none (sym q ∙ t)
 
 pub loop-i-init : goal.loop-i-init
-loop-i-init c = (search rules, some_none _)
-
-pub stray-requires : goal.stray-requires
-stray-requires c = search (rules, held, lt_of)
+loop-i-init c = some_none _
 
 pub returns-then-stray : goal.returns-then-stray
 returns-then-stray c = search (rules, stops)
 
 pub loop-i-preserved : goal.loop-i-preserved
 loop-i-preserved c = search (rules, one_more)
-
-pub returns : goal.returns
-returns c = search (rules, some_end)

@@ -1,16 +1,8 @@
-use mathlib.Core.Path.{◌≡◌, sym, ap}
-use mathlib.Core.Bool.{true, false, not}
-use mathlib.Core.List.{List}
-use Prim.Native.Nat.{ℕ, ◌+◌, ◌≤◌, ◌<◌}
-use native.Mathlib.Nat.{le_of_lt}
-use native.Mathlib.Omega.{arith}
-use borrow.Author.Rules.{rules}
-use borrow.Author.Tests.{lt-ltb, le-ltb}
+use Rattle.std.proofs.Common.{◌≡◌, sym, ap, true, false, not, List, ℕ, ◌+◌, ◌≤◌, ◌<◌, le_of_lt, arith, rules, lt-ltb, le-ltb}
 use Rattle.laws.specs.Chain.{lt_of}
 use Rattle.laws.specs.Scan.{some_below}
-use Rattle.laws.specs.ScanLaws.{some_none, some_not, some_found, some_end}
+use Rattle.laws.specs.ScanLaws.{some_none, some_not, some_found}
 use Rattle.image.specs.Layout.{count_of}
-use Rattle.image.specs.SoundLaws.{held}
 use Rattle.image.specs.declared.tables.Table.TheVariants.{Policing}
 use Rattle.fields.specs.Fields.{sharindx}
 use Rattle.broken.specs.Broken.{sharindx_beyond}
@@ -29,16 +21,10 @@ module _ (image : List ℕ) (i n r : ℕ) (e : n ≡ count_of image Policing) (q
 ruleset stops = (reaches, le_of_lt)
 
 pub loop-i-init : goal.loop-i-init
-loop-i-init c = (search rules, some_none _)
-
-pub sharindx-requires : goal.sharindx-requires
-sharindx-requires c = search (rules, held, lt_of)
+loop-i-init c = some_none _
 
 pub returns-then-n-sharindx : goal.returns-then-n-sharindx
 returns-then-n-sharindx c = search (rules, stops)
 
 pub loop-i-preserved : goal.loop-i-preserved
 loop-i-preserved c = search (rules, one_more)
-
-pub returns : goal.returns
-returns c = search (rules, some_end)

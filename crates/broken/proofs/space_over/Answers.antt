@@ -1,12 +1,6 @@
-use mathlib.Core.Path.{◌≡◌, sym, ◌∙◌, ap}
-use mathlib.Core.List.{List}
-use Prim.Native.Nat.{ℕ, ◌+◌}
-use native.Mathlib.Nat.{le_antisymm}
-use borrow.Author.Rules.{rules}
-use Rattle.laws.specs.Chain.{lt_of}
+use Rattle.std.proofs.Common.{◌≡◌, sym, ◌∙◌, ap, List, ℕ, ◌+◌, rules}
 use Rattle.laws.specs.Scan.{total}
 use Rattle.laws.specs.ScanLaws.{total_none, total_more}
-use Rattle.image.specs.SoundLaws.{held}
 use Rattle.fields.specs.Fields.{part_spc}
 use Rattle.broken.proofs.space_over.Invariants.{space}
 use Rattle.broken.proofs.space_over.Goals as goal
@@ -15,13 +9,7 @@ one_more : (image : List ℕ) (sum j r : ℕ) → sum ≡ total j (space image) 
 one_more image sum j r e q = ap (λ (x : ℕ). x + r) e ∙ ap (λ (x : ℕ). total j (space image) + x) q ∙ sym (total_more j (space image))
 
 pub loop-j-init : goal.loop-j-init
-loop-j-init c = (search rules, search rules, sym (total_none _))
-
-pub part_spc-sum-requires : goal.part_spc-sum-requires
-part_spc-sum-requires c = search (rules, held, lt_of)
+loop-j-init c = (search rules, sym (total_none _))
 
 pub loop-j-preserved : goal.loop-j-preserved
 loop-j-preserved c = search (rules, one_more)
-
-pub returns : goal.returns
-returns c = cc (le_antisymm c.loop-j.invariant.0 c.loop-j-test.false)

@@ -1,18 +1,13 @@
-use borrow.Author.Rules.{rules}
-use Rattle.laws.specs.Chain.{lt_of}
-use Rattle.laws.specs.ScanLaws.{counting_none, counting_more}
-use Rattle.image.specs.SoundLaws.{held}
 use Rattle.broken.specs.PassesLaws.{counting_whole}
+use Rattle.broken.proofs.MarksLaws.{flags_none, flags_more}
 use Rattle.broken.proofs.vlans_seen.Goals as goal
 
 pub loop-i-init : goal.loop-i-init
-loop-i-init c = search (rules, counting_none)
-
-pub vlanid-v-requires : goal.vlanid-v-requires
-vlanid-v-requires c = search (rules, held, lt_of)
+loop-i-init c = flags_none _ _ _ _ c.none-seen.ensures.again c.none-seen.ensures.marks
 
 pub loop-i-preserved : goal.loop-i-preserved
-loop-i-preserved c = search (rules, counting_more)
+loop-i-preserved c = let s = c.loop-i.seen in
+    flags_more _ 4096 c.loop-i.i c.vlanid.result s.again _ s.marks _ c.loop-i.invariant c.vlanid.ensures.0 c.vlanid.ensures.1 c.mark.ensures.again c.mark.ensures.marks
 
 pub returns : goal.returns
-returns c = search (rules, counting_whole)
+returns c = let l = c.loop-i in counting_whole _ 4096 l.i _ c.count-i-end.result _ _ l.invariant c.loop-i-test.false l.auto.i-end c.count-i-end.ensures.0

@@ -1,6 +1,5 @@
 -- `crc::word_in` meets its contract: four bytes that go in are thirty-two bits that leave.
-use mathlib.Core.Path.{sym, ◌∙◌}
-use borrow.Author.Rules.{rules}
+use Rattle.std.proofs.Common.{sym, ◌∙◌, rules}
 use Rattle.crc.proofs.Laws.{word_in_bits}
 use Rattle.crc.proofs.word_in.Goals as goal
 

@@ -1,5 +1,4 @@
 -- `crc_short::kept` meets its contract. The loop's invariant: j bytes of the word are taken, and what they leave, by the number kept at place k, is in `left`.
-use Prim.Native.Nat.{◌-◌}
 use Rattle.crc.specs.Bytes.{Taken}
 use Rattle.crc_short_bytes.specs.Twice.{twice}
 use Rattle.crc_short.specs.Turn.{reach}
@@ -7,6 +6,3 @@ use Rattle.crc_short.proofs.kept.Given as goal
 
 abbrev pub invariant-loop-j : goal.invariant-loop-j
 invariant-loop-j l = Taken twice (reach l.k) l.w l.j l.rest l.left
-
-abbrev pub decreases-loop-j : goal.decreases-loop-j
-decreases-loop-j l = 4 - l.j

@@ -1,8 +1,5 @@
 -- `crc_short_bytes::byte` meets its contract: each number of an arm is made of those at the powers of two.
-use mathlib.Core.Path.{◌≡◌, refl}
-use mathlib.Core.List.{List, [], ◌∷◌}
-use Prim.Native.Nat.{ℕ, ◌+◌, ◌<◌}
-use lib.Dec.{T, eqb, lit<}
+use Rattle.std.proofs.Common.{◌≡◌, refl, List, [], ◌∷◌, ℕ, ◌+◌, ◌<◌, T, eqb, lit<}
 use Rattle.crc.specs.Crc.{bit, bits_out}
 use Rattle.crc_short_bytes.specs.Twice.{twice}
 use Rattle.crc_short_bytes.specs.Arm.{basis}

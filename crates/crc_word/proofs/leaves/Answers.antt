@@ -1,13 +1,9 @@
-use mathlib.Core.Path.{◌≡◌, ◌∙◌}
-use Prim.Native.Nat.{ℕ, ◌+◌, ◌*◌, ◌/◌, ◌%◌}
-use native.Mathlib.Omega.{arith}
-use borrow.Author.Rules.{rules}
-use lib.Bits.{bit_xor}
+use Rattle.std.proofs.Common.{◌≡◌, ◌∙◌, ℕ, ◌+◌, ◌*◌, ◌/◌, ◌%◌, arith, rules, bit_xor}
 use Rattle.crc.specs.Crc.{bits_out}
 use Rattle.crc.proofs.ArmLaws.{itself}
 use Rattle.crc.specs.Bytes.{Taken}
-use Rattle.crc.proofs.BytesLaws.{taken_none, taken_more, taken_all}
-use Rattle.crc_word.proofs.leaves.Goals.{then-j-lt1, else-j-lt1+then-j-lt2, else-j-lt1+else-j-lt2+then-j-lt3, else-j-lt1+else-j-lt2+else-j-lt3}
+use Rattle.crc.proofs.BytesLaws.{taken_none, taken_more}
+use Rattle.crc_word.proofs.leaves.Goals.{in-0, in-1, in-2, in_default}
 use Rattle.crc_word.proofs.leaves.Goals as goal
 
 pub loop-j-init : goal.loop-j-init
@@ -17,12 +13,9 @@ pub loop-j-preserved : goal.loop-j-preserved
 loop-j-preserved c = let l = c.loop-j in
     let more : (m v : ℕ) → 32 ≡ 8 * l.j + m → v ≡ bits_out m (l.rest % 256) → Taken (λ x. x) 32 c.args.w (l.j + 1) (l.rest / 256) (bit_xor l.left v)
     = λ m v e p. taken_more itself 32 m _ _ _ _ v c.loop-j-test.true (search rules) e p l.invariant in
-    elim c.if-j-lt1.branch [
-      | then-j-lt1 w ↦ more 32 _ (omega (arith, w.if-j-lt1.true)) (w.u-is ∙ c.byte-b.ensures.3)
-      | else-j-lt1+then-j-lt2 w ↦ more 24 _ (omega (arith, w.if-j-lt1.false, w.if-j-lt2.true)) (w.u-is ∙ c.byte-b.ensures.2)
-      | else-j-lt1+else-j-lt2+then-j-lt3 w ↦ more 16 _ (omega (arith, w.if-j-lt1.false, w.if-j-lt2.false, w.if-j-lt3.true)) (w.u-is ∙ c.byte-b.ensures.1)
-      | else-j-lt1+else-j-lt2+else-j-lt3 w ↦ more 8 _ (omega (arith, w.if-j-lt1.false, w.if-j-lt2.false, w.if-j-lt3.false)) (w.u-is ∙ c.byte-b.ensures.0)
+    elim c.match-j.branch [
+      | in-0 w ↦ more 32 _ (omega arith) (w.u-is ∙ c.byte-b.ensures.3)
+      | in-1 w ↦ more 24 _ (omega arith) (w.u-is ∙ c.byte-b.ensures.2)
+      | in-2 w ↦ more 16 _ (omega arith) (w.u-is ∙ c.byte-b.ensures.1)
+      | in_default w ↦ more 8 _ (omega arith) (w.u-is ∙ c.byte-b.ensures.0)
     ]
-
-pub returns : goal.returns
-returns c = taken_all 32 _ _ _ _ (search rules) c.loop-j-test.false c.loop-j.invariant

@@ -1,8 +1,5 @@
 -- `crc_word_bytes::byte` meets its contract: each number of an arm is made of those at the powers of two.
-use mathlib.Core.Path.{◌≡◌, refl}
-use mathlib.Core.List.{List, [], ◌∷◌}
-use Prim.Native.Nat.{ℕ, ◌+◌, ◌<◌}
-use lib.Dec.{T, eqb, lit<}
+use Rattle.std.proofs.Common.{◌≡◌, refl, List, [], ◌∷◌, ℕ, ◌+◌, ◌<◌, T, eqb, lit<}
 use Rattle.crc.specs.Crc.{bit, bits_out}
 use Rattle.crc.specs.Arm.{pick, basis}
 use Rattle.crc.proofs.ArmLaws.{bits_linear, arm}

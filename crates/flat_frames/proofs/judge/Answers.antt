@@ -1,5 +1,5 @@
 -- `flat_frames::judge`: the verdict's numbers, how many replicas, the row and the places.
-use borrow.Author.Rules.{rules}
+use Rattle.std.proofs.Common.{rules}
 use Rattle.flat_frames.specs.FramesLaws.{judges}
 use Rattle.flat_frames.proofs.judge.Goals as goal
 

@@ -1,5 +1,5 @@
 -- `flat_frames::release`: the answer's number, and the row.
-use borrow.Author.Rules.{rules}
+use Rattle.std.proofs.Common.{rules}
 use Rattle.flat_frames.specs.FramesLaws.{releases}
 use Rattle.flat_frames.proofs.release.Goals as goal
 

@@ -1,5 +1,5 @@
 -- `flat_frames::tile`: the tile's numbers.
-use borrow.Author.Rules.{rules}
+use Rattle.std.proofs.Common.{rules}
 use Rattle.flat_frames.specs.FramesLaws.{tiles}
 use Rattle.flat_frames.proofs.tile.Goals as goal
 

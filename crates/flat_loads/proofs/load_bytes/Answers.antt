@@ -1,5 +1,5 @@
 -- `flat_loads::load_bytes`: the whole load's answer by its number, and its buffer.
-use borrow.Author.Rules.{rules}
+use Rattle.std.proofs.Common.{rules}
 use Rattle.flat_loads.proofs.Laws.{ends_flat}
 use Rattle.flat_loads.proofs.load_bytes.Goals as goal
 

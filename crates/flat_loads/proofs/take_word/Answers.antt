@@ -1,5 +1,5 @@
 -- `flat_loads::take_word`: the word stored, and the state moved over it.
-use mathlib.Core.Path.{refl}
+use Rattle.std.proofs.Common.{refl}
 use Rattle.crc.specs.Crc.{words_in}
 use Rattle.flat_loads.proofs.Laws.{takes}
 use Rattle.flat_loads.proofs.take_word.Goals as goal

@@ -6,11 +6,11 @@ use Rattle.image_vectors.specs.Fit.{starts, goes_on}
 use Rattle.image_vectors.proofs.main.Goals as goal
 use Rattle.image_vectors.proofs.main.Goals.{then-branch, else-branch}
 
-pub loop-i-init : goal.loop-i-init
-loop-i-init c = search (rules, starts)
+pub loop-four-init : goal.loop-four-init
+loop-four-init c = search (rules, starts)
 
-pub loop-i-preserved : goal.loop-i-preserved
-loop-i-preserved c = elim c.if-branch.branch [
+pub loop-four-preserved : goal.loop-four-preserved
+loop-four-preserved c = elim c.if-branch.branch [
   | then-branch w ↦ (ap length w.image-is ∙ length-replicate {A = ℕ} image_words 0, starts _ _ (w.load-is ∙ w.fresh-load-then-branch.ensures) w.image-is)
-  | else-branch w ↦ (ap length w.image-is ∙ w.step-load.auto.image ∙ c.loop-i.invariant.0, goes_on _ _ _ _ _ _ _ c.loop-i.invariant.1 w.step-load.ensures w.load-is w.image-is)
+  | else-branch w ↦ (ap length w.image-is ∙ w.step-load.auto.image ∙ c.loop-four.invariant.0, goes_on _ _ _ _ _ _ _ c.loop-four.invariant.1 w.step-load.ensures w.load-is w.image-is)
 ]

@@ -5,5 +5,5 @@ use Rattle.stream.specs.Fine.{Fine}
 use Rattle.stream.specs.Machine.{at}
 use Rattle.image_vectors.proofs.main.Given as goal
 
-abbrev pub invariant-loop-i : goal.invariant-loop-i
-invariant-loop-i l = (length l.image ≡ image_words) × Fine (at l.load l.image)
+abbrev pub invariant-loop-four : goal.invariant-loop-four
+invariant-loop-four l = (length l.image ≡ image_words) × Fine (at l.load l.image)

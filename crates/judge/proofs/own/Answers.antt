@@ -1,24 +1,21 @@
--- `judge::own`: by what steps 1 to 6 answered.
-use mathlib.Core.Path.{subst}
-use Prim.Native.Nat.{ℕ, ◌+◌, ◌≤◌}
-use native.Mathlib.Omega.{arith}
+-- `judge::own`: by what steps 1 to 6 answered, then by what 7 and 8 did.
+use Rattle.std.proofs.Common.{ap, subst, sym, ◌∙◌}
 use Rattle.image.specs.Layout.{image_in}
-use Rattle.plan.specs.LetIn.{Through}
-use Rattle.judge.specs.Laws.{is_dropped, is_let_in}
+use Rattle.plan.specs.Sane.{Loaded}
+use Rattle.plan.proofs.Laws.{gone_out, policed}
+use Rattle.plan.specs.Answered.{entered_in}
+use Rattle.settle.specs.Laws.{drop_carries}
+use Rattle.judge.specs.Laws.{is_dropped, is_let_in, policed_is}
 use Rattle.judge.proofs.own.Goals as goal
 
--- a frame of sixty bytes has an address at its start
-long : (n : ℕ) → 60 ≤ n → 0 + 6 ≤ n
-long n h = omega arith
+pub returns-in_err-entrant : goal.returns-in_err-entrant
+returns-in_err-entrant c = rw (gone_out _ _ c.from_residual.ensures.1) (is_dropped _ _ _ _ _ _ _ _ (ap entered_in c.in_err-entrant.was))
 
-pub mac_at-destination-requires : goal.mac_at-destination-requires
-mac_at-destination-requires c = long _ (subst (Through (image_in c.args.image.now) c.args.frame.now) c.in-In.is c.requires.through).long
+pub returns-in_err-policer : goal.returns-in_err-policer
+returns-in_err-policer c = rw (gone_out _ _ c.from_residual-in_err-policer.ensures.1) (is_let_in _ _ _ _ _ _ _ _ _ _ _ _ (ap entered_in c.in_ok-entrant.was) (policed_is _ _ _ _ _ _ _ _ _ _ _ _ _ c.of-arrival.ensures c.police.ensures c.in_err-policer.was (drop_carries _ _ _ _)))
 
-pub let_in-requires : goal.let_in-requires
-let_in-requires c = let h = subst (Through (image_in c.args.image.now) c.args.frame.now) c.in-In.is c.requires.through in record { sound = c.requires.sound; port_bound = (c.requires.port_bound.0, h.there, h.narrow, c.requires.port_bound.2) }
+pub carry_on-requires-clause-policer_bound : goal.carry_on-requires-clause-policer_bound
+carry_on-requires-clause-policer_bound c = subst (Loaded (image_in c.args.image.now)) (sym c.police.ensures ∙ c.in_ok-policer.was) (policed _ _ _ _ _)
 
-pub returns-in-Dropped : goal.returns-in-Dropped
-returns-in-Dropped c = is_dropped _ _ _ _ _ _ _ _ c.in-Dropped.is
-
-pub returns-in-In : goal.returns-in-In
-returns-in-In c = is_let_in _ _ _ _ _ _ _ _ _ _ _ _ _ c.in-In.is c.mac_at-destination.ensures c.requires.port_bound.1 c.let_in.ensures
+pub returns : goal.returns
+returns c = is_let_in _ _ _ _ _ _ _ _ _ _ _ _ (ap entered_in c.in_ok-entrant.was) (policed_is _ _ _ _ _ _ _ _ _ _ _ _ _ c.of-arrival.ensures c.police.ensures c.in_ok-policer.was c.carry_on.ensures)

@@ -1,12 +1,14 @@
 -- `judge::refusal`: what stands before every call, then the frame's own.
-use Rattle.laws.specs.Chain.{at_zero, not_zero}
+use Rattle.std.proofs.Common.{refl}
+use Rattle.laws.specs.Chain.{at_zero}
+use Rattle.ledger.proofs.Laws.{handed_first}
 use Rattle.judge.specs.Refusal.{refusal_of}
 use Rattle.judge.proofs.refusal.Goals as goal
 
-pub returns-then-refused-ne0 : goal.returns-then-refused-ne0
+pub returns-in_err-standing : goal.returns-in_err-standing
 unfolding refusal_of
-returns-then-refused-ne0 c = search not_zero
+returns-in_err-standing c = handed_first _ _ _ _ c.from_residual.ensures.1 c.in_err-standing.ensures
 
 pub returns : goal.returns
 unfolding refusal_of
-returns c = search at_zero
+returns c = at_zero _ _ _ _ _ c.in_ok-standing.ensures refl c.unjudged.ensures

@@ -1,8 +1,4 @@
-use mathlib.Core.Path.{◌≡◌, refl, sym, ◌∙◌, ap}
-use mathlib.Core.Bool.{Bool}
-use mathlib.Core.List.{List}
-use Prim.Native.Nat.{ℕ}
-use borrow.Author.Rules.{rules}
+use Rattle.std.proofs.Common.{◌≡◌, refl, sym, ◌∙◌, ap, Bool, List, ℕ}
 use Rattle.laws.specs.ScanLaws.{some_none, some_not, some_found, some_end}
 use Rattle.image.specs.Rows.{table_count, row_at}
 use Rattle.image.specs.Layout.{image_in}
@@ -16,8 +12,7 @@ told : (image : List ℕ) (place : ℕ) (t : Table) (r : Bool) → t ≡ (row_at
 told image place t r e q = sym (q ∙ ap (above (image_in image)) e)
 
 pub loop-place-init : goal.loop-place-init
-unfolding over_limit
-loop-place-init c = (search rules, some_none _)
+loop-place-init c = some_none _
 
 pub returns-then-above : goal.returns-then-above
 unfolding over_limit
@@ -25,10 +20,9 @@ returns-then-above c = let l = c.loop-place in
     sym (some_found table_count l.place (over _) c.loop-place-test.true (told _ l.place _ _ c.table_at.ensures c.above.ensures ∙ c.if-above.true))
 
 pub loop-place-preserved : goal.loop-place-preserved
-unfolding over_limit
 loop-place-preserved c = let l = c.loop-place in
-    (search rules, some_not l.place (over _) l.invariant.1 (told _ l.place _ _ c.table_at.ensures c.above.ensures ∙ c.if-above.false))
+    some_not l.place (over _) l.invariant (told _ l.place _ _ c.table_at.ensures c.above.ensures ∙ c.if-above.false)
 
 pub returns : goal.returns
 unfolding over_limit
-returns c = let l = c.loop-place in some_end table_count table_count l.place _ refl c.loop-place-test.false l.invariant.0 l.invariant.1
+returns c = let l = c.loop-place in some_end table_count table_count l.place _ refl c.loop-place-test.false l.auto.place-end l.invariant

@@ -1,12 +1,8 @@
 -- `lookup::apart`: two numbers are equal where their bits do not differ.
-use mathlib.Core.Path.{◌≡◌, sym, ◌∙◌, ap}
-use mathlib.Core.Bool.{Bool, not}
-use Prim.Native.Nat.{ℕ, ◌+◌, ◌*◌, ◌/◌, ◌^◌, ◌<◌, ◌≤◌}
-use native.Mathlib.Decide.{ℕ_discrete}
-use native.Mathlib.Omega.{arith}
-use lib.Bits.{bit_xor, bit_and, xor_self, xor_lt, xor_add_and, and_le_l, and_le_r}
-use lib.Dec.{eqb}
-use borrow.Author.Tests.{eq-eqb, ne_eqb}
+use Rattle.std.proofs.Common.{◌≡◌, sym, ◌∙◌, ap, Bool, not, ℕ, ◌+◌, ◌*◌, ◌/◌, ◌^◌, ◌<◌, ◌≤◌, arith, bit_xor, bit_and, eqb, eq-eqb, ne_eqb}
+use Rattle.std.proofs.Math.Decide.{ℕ_discrete}
+use Rattle.std.proofs.lemmas.Nat.{xor_lt, and_le_l, and_le_r}
+use Rattle.std.specs.Int.Bits.{xor_self, xor_add_and}
 use Rattle.laws.specs.Scan.{flag}
 use Rattle.lookup.proofs.apart.Goals as goal
 

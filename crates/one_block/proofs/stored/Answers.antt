@@ -1,22 +1,8 @@
 -- `one_block::stored`: what was stored and summed is the machine's run.
-use mathlib.Core.Path.{refl}
-use native.Mathlib.Nat.{mul_comm}
-use native.Mathlib.Omega.{arith}
-use Rattle.image.specs.Rows.{size_of, most_of}
-use Rattle.image.specs.RowLaws.{room_inside}
+use Rattle.std.proofs.Common.{refl, arith}
 use Rattle.stream.proofs.StatesLaws.{so}
 use Rattle.one_block.proofs.Laws.{data_run}
 use Rattle.one_block.proofs.stored.Goals as goal
-
-pub place_of-place-requires : goal.place_of-place-requires
-place_of-place-requires c = record { image_words_in_bounds = c.requires.image_words_in_bounds.0; due_bound = omega (arith, c.requires.image_words_in_bounds.1) }
-
-pub overflow_add-placed : goal.overflow_add-placed
-overflow_add-placed c = let t = c.args.load.table in
-    omega (arith, c.requires.image_words_in_bounds.1, room_inside t, mul_comm (most_of t) (size_of t))
-
-pub shape_of-image : goal.shape_of-image
-shape_of-image c = c.copy.auto.image
 
 pub returns : goal.returns
 returns c = so

@@ -1,36 +1,24 @@
--- `places::put_ten`: ten stores, one behind the other.
-use borrow.Author.Rules.{rules}
-use lib.ListN.{length-set}
-use Rattle.places.specs.Places.{values_of}
-use Rattle.places.specs.PlacesLaws.{put_first}
+-- `places::put_ten`: ten numbers over those that stand there.
+use Rattle.std.proofs.Common.{◌≡◌, List, ℕ, ◌+◌, ◌-◌, ◌≤◌, ◌++◌, length, take, drop, sym, ◌∙◌, ap, subst, arith, length-drop}
+use Rattle.std.proofs.lemmas.List.{take-append-drop, length-take-le}
+use borrow.Rule.Slice.PartMut.{put_mid}
+use Rattle.places.specs.Places.{ten, put_from}
+use Rattle.places.specs.PlacesLaws.{put_behind}
 use Rattle.places.proofs.put_ten.Goals as goal
 
-pub bounds-places-at-2 : goal.bounds-places-at-2
-bounds-places-at-2 c = simp length-set (search rules)
+-- what is put in the place of as many stands there one behind the other
+put_over : (places put xs : List ℕ) (at k : ℕ) → put ≡ xs → k ≡ length xs → at + length xs ≤ length places → put_mid at k places put ≡ put_from places at 0 xs
+put_over places put xs at k e n h =
+    ap (put_mid at k places) e
+    ∙ ap (λ (m : ℕ). put_mid at m places xs) n
+    ∙ sym (put_behind (take at places) (drop at places) xs at 0 front rest)
+    ∙ ap (λ (l : List ℕ). put_from l at 0 xs) (take-append-drop at places)
+  where
+    front : at + 0 ≡ length (take at places)
+    front = let l = length-take-le at places (omega arith) in omega arith
 
-pub bounds-places-at-3 : goal.bounds-places-at-3
-bounds-places-at-3 c = simp length-set (search rules)
-
-pub bounds-places-at-4 : goal.bounds-places-at-4
-bounds-places-at-4 c = simp length-set (search rules)
-
-pub bounds-places-at-5 : goal.bounds-places-at-5
-bounds-places-at-5 c = simp length-set (search rules)
-
-pub bounds-places-at-6 : goal.bounds-places-at-6
-bounds-places-at-6 c = simp length-set (search rules)
-
-pub bounds-places-at-7 : goal.bounds-places-at-7
-bounds-places-at-7 c = simp length-set (search rules)
-
-pub bounds-places-at-8 : goal.bounds-places-at-8
-bounds-places-at-8 c = simp length-set (search rules)
-
-pub bounds-places-at-9 : goal.bounds-places-at-9
-bounds-places-at-9 c = simp length-set (search rules)
-
-pub bounds-places-at-10 : goal.bounds-places-at-10
-bounds-places-at-10 c = simp length-set (search rules)
+    rest : length xs ≤ length (drop at places)
+    rest = let l = length-drop at places in omega arith
 
 pub returns : goal.returns
-returns c = put_first c.args.places.now c.args.at c.args.head (values_of c.args.s)
+returns c = put_over c.args.places.now _ (ten c.args.head c.args.s) c.args.at _ c.copy_from_slice.ensures.after (omega arith) c.requires

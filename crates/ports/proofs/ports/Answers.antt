@@ -3,14 +3,6 @@ use Rattle.ports.specs.Ports.{ports_of}
 use Rattle.ports.specs.Laws.{same_cut}
 use Rattle.ports.proofs.ports.Goals as goal
 
-pub egress_ports-requires : goal.egress_ports-requires
-unfolding ports_of
-egress_ports-requires c = c.requires.sound
-
-pub others-requires : goal.others-requires
-unfolding ports_of
-others-requires c = c.requires.port_bound.0
-
 pub returns : goal.returns
 unfolding ports_of
 returns c = same_cut _ _ _ _ _ _ _ _ _ _ c.wanted.ensures c.reach_port.ensures.0 c.vmemb_port.ensures.0

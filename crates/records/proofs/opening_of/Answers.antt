@@ -1,5 +1,5 @@
 -- `records::opening_of`: 54, 50, 51 and 52, in the paper's order.
-use mathlib.Core.Path.{ap}
+use Rattle.std.proofs.Common.{ap}
 use Rattle.laws.specs.Chain.{hit, pass, hit_lt, pass_lt}
 use Rattle.records.specs.List.{version, opening_of}
 use Rattle.records.proofs.opening_of.Goals as goal

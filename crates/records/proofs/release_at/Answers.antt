@@ -1,6 +1,5 @@
 -- `records::release_at`: both bytes are there, or the record is cut.
-use mathlib.Core.Path.{ap}
-use Prim.Native.Nat.{ℕ, ◌+◌}
+use Rattle.std.proofs.Common.{ap, ℕ, ◌+◌}
 use Rattle.laws.specs.Chain.{hit_lt, pass_lt}
 use Rattle.records.specs.List.{release, release_at}
 use Rattle.records.proofs.release_at.Goals as goal

@@ -1,27 +1,21 @@
 -- `replica::one`: by the answer of 4, then by that of 7 and 8.
-use mathlib.Core.Path.{sym, subst, ◌∙◌}
+use Rattle.std.proofs.Common.{sym, subst, ◌∙◌}
 use Rattle.image.specs.Layout.{image_in}
 use Rattle.plan.specs.LetIn.{Inside}
 use Rattle.plan.specs.EnterLaws.{inside}
-use Rattle.plan.specs.Sane.{Loaded}
+use Rattle.plan.proofs.Laws.{gone_out}
 use Rattle.settle.specs.Laws.{drop_carries}
 use Rattle.replica.proofs.ReplicaLaws.{is_absent, is_placed}
 use Rattle.replica.proofs.one.Goals as goal
 
-pub place-placed-requires : goal.place-placed-requires
-place-placed-requires c = c.requires.sound
+pub returns-in_err-place : goal.returns-in_err-place
+returns-in_err-place c = let e = c.in_err-place.ensures in rw (gone_out _ _ c.from_residual.ensures.1) (is_absent _ _ _ _ _ _ _ _ _ _ _ c.place.ensures e.ok_part e.value)
 
-pub returns-in_default : goal.returns-in_default
-returns-in_default c = is_absent _ _ _ _ _ _ _ _ _ _ c.place-placed.ensures c.in_default.is
+pub returns-in_err-policer : goal.returns-in_err-policer
+returns-in_err-policer c = rw (gone_out _ _ c.from_residual-in_err-policer.ensures.1) (is_placed _ _ _ _ _ _ _ _ _ _ _ _ _ _ c.place.ensures c.in_ok-place.ensures.ok_part c.in_err-policer.was (drop_carries _ _ _ _))
 
-pub carry_on-requires : goal.carry_on-requires
-carry_on-requires c = let t = subst (Inside (image_in c.args.image.now)) (sym c.place-placed.ensures ∙ c.in-At.is) (inside (image_in c.args.image.now) _) in record { sound = c.requires.sound; port_bound = (c.requires.port_bound.0, t, c.requires.port_bound.1); policer_bound = subst (Loaded (image_in c.args.image.now)) c.in-By.is c.requires.loaded; octets_bound = c.requires.port_bound.2 }
+pub carry_on-requires-clause-port_bound : goal.carry_on-requires-clause-port_bound
+carry_on-requires-clause-port_bound c = (c.requires.port_bound.0, subst (Inside (image_in c.args.image.now)) (sym c.place.ensures ∙ c.in_ok-place.ensures.ok_part) (inside (image_in c.args.image.now) _), c.requires.port_bound.1)
 
-pub returns-in-Unmetered : goal.returns-in-Unmetered
-returns-in-Unmetered c = is_placed _ _ _ _ _ _ _ _ _ _ _ _ _ _ c.place-placed.ensures c.in-At.is c.in-Unmetered.is (drop_carries _ _ _ 7)
-
-pub returns-in-TooLong : goal.returns-in-TooLong
-returns-in-TooLong c = is_placed _ _ _ _ _ _ _ _ _ _ _ _ _ _ c.place-placed.ensures c.in-At.is c.in-TooLong.is (drop_carries _ _ _ 8)
-
-pub returns-in-By : goal.returns-in-By
-returns-in-By c = is_placed _ _ _ _ _ _ _ _ _ _ _ _ _ _ c.place-placed.ensures c.in-At.is c.in-By.is c.carry_on.ensures
+pub returns : goal.returns
+returns c = is_placed _ _ _ _ _ _ _ _ _ _ _ _ _ _ c.place.ensures c.in_ok-place.ensures.ok_part c.in_ok-policer.was c.carry_on.ensures

@@ -1,15 +1,13 @@
--- `replica::replicate`: by what steps 1 to 6 answered.
-use mathlib.Core.Path.{subst}
+-- `replica::replicate`: none where the frame was not let in.
+use Rattle.std.proofs.Common.{refl, sym, subst}
+use Rattle.std.specs.Prelude.{Option}
+use Rattle.plan.specs.declared.enter.Entrant.{Entrant}
 use Rattle.image.specs.Layout.{image_in}
-use Rattle.plan.specs.LetIn.{Through}
-use Rattle.replica.proofs.ReplicaLaws.{none_of, all_of}
+use Rattle.places.specs.PlacesLaws.{laid_none}
+use Rattle.replica.specs.Replica.{replicas_for, Replicates}
 use Rattle.replica.proofs.replicate.Goals as goal
 
-pub all-requires : goal.all-requires
-all-requires c = let h = subst (Through (image_in c.args.image.now) c.args.frame.now) c.in-In.is c.requires.through in record { sound = c.requires.sound; port_bound = (c.requires.port_bound.0, h.long, c.requires.port_bound.1, h.narrow); in_bounds = c.requires.in_bounds }
-
-pub returns-in-Dropped : goal.returns-in-Dropped
-returns-in-Dropped c = none_of _ _ _ _ _ _ _ _ c.in-Dropped.is
-
-pub returns-in-In : goal.returns-in-In
-returns-in-In c = all_of _ _ _ _ _ _ _ _ _ _ _ _ _ c.in-In.is c.all.ensures
+pub returns-in-None : goal.returns-in-None
+returns-in-None c = let s = c.args in
+    subst (λ (e : Option Entrant). Replicates (replicas_for (image_in s.image.now) s.row.now s.port s.time s.frame.now e) s.places.now 0 s.row.now s.places.now) (sym c.in-None.is)
+    record { many = refl; left = refl; laid = laid_none s.places.now }

@@ -1,6 +1,6 @@
--- `settle::settle`: what was spent, and the verdict by its number.
-use Rattle.settle.specs.Laws.{settles_as}
+-- `settle::settle`: what was spent, and sent where nothing drops it.
+use Rattle.settle.specs.Laws.{settles_by}
 use Rattle.settle.proofs.settle.Goals as goal
 
 pub returns : goal.returns
-returns c = settles_as _ _ _ _ _ _ c.spend-s.ensures c.verdict_of.ensures
+returns c = settles_by _ _ _ _ _ _ _ c.spend-spent.ensures c.and.ensures

@@ -1,15 +1,13 @@
 -- `whole::bytes_run`: what is left of the machine's run is the whole run.
-use mathlib.Core.Path.{◌≡◌}
-use Prim.Native.Nat.{◌-◌, ◌≤◌}
-use lib.ListN.{length, drop}
+use Rattle.std.proofs.Common.{◌≡◌, ◌*◌, length, drop}
 use Rattle.stream.specs.Paper.{words_of}
 use Rattle.stream.specs.Machine.{at, run}
 use Rattle.stream.specs.Fine.{Fine}
 use Rattle.whole.proofs.bytes_run.Given as goal
 
-abbrev pub invariant-loop-i : goal.invariant-loop-i
-invariant-loop-i l =
-    (l.i ≤ length l.bytes) × (length l.image ≡ length l.initial.image) × Fine (at l.state l.image) × (run (at l.state l.image) (words_of (drop l.i l.bytes)) ≡ run (at l.initial.state l.initial.image) (words_of l.bytes))
-
-abbrev pub decreases-loop-i : goal.decreases-loop-i
-decreases-loop-i l = length l.bytes - l.i
+abbrev pub invariant-loop-chunk : goal.invariant-loop-chunk
+invariant-loop-chunk l = record {
+  long : length l.image ≡ length l.initial.image;
+  fine : Fine (at l.state l.image);
+  runs : run (at l.state l.image) (words_of (drop (l.chunk-index * 1024) l.bytes)) ≡ run (at l.initial.state l.initial.image) (words_of l.bytes);
+}

@@ -1,24 +1,12 @@
 -- `whole::load_words`: 31, or the run settled.
-use mathlib.Core.Path.{refl, sym, ◌∙◌, ap, subst}
-use Rattle.image.specs.SoundLaws.{has_room}
+use Rattle.std.proofs.Common.{refl, ◌∙◌, ap}
 use Rattle.whole.proofs.Laws.{ends_as, words_31, words_on}
 use Rattle.stream.proofs.StatesLaws.{leaves_at}
-use Prim.Native.Nat.{ℕ, ◌≤◌}
-use Rattle.image.specs.Layout.{image_words}
 use Rattle.stream.specs.Ends.{settled}
 use Rattle.whole.proofs.load_words.Goals as goal
 
 pub returns-then-too_short : goal.returns-then-too_short
-returns-then-too_short c = let a = c.args in ends_as (words_31 a.image.now a.words.now _ c.too_short.ensures c.if-too_short.true) (record { told = refl; said = refl; kept = refl })
-
-pub fresh_run-end-requires : goal.fresh_run-end-requires
-fresh_run-end-requires c = has_room c.args.image.now _ c.too_short.ensures c.if-too_short.false
-
-pub settle-requires : goal.settle-requires
-settle-requires c = subst (λ (n : ℕ). image_words ≤ n) (sym c.fresh_run-end.auto.image) (has_room c.args.image.now _ c.too_short.ensures c.if-too_short.false)
-
-pub shape_of-image : goal.shape_of-image
-shape_of-image c = c.settle.auto.image ∙ c.fresh_run-end.auto.image
+returns-then-too_short c = let a = c.args in ends_as (words_31 a.image.now a.words.now _ c.too_short.ensures c.if-too_short.true) (rw c.from.ensures (record { told = refl; said = refl; kept = refl }))
 
 pub returns : goal.returns
 returns c = let a = c.args in

@@ -1,10 +1,5 @@
 -- `bits::field`: the word or the pair of words that the code reads is where the field's bits lie.
-use mathlib.Core.Path.{◌≡◌, sym, ◌∙◌, ap, subst}
-use Prim.Native.Nat.{ℕ, ◌+◌, ◌-◌, ◌*◌, ◌/◌, ◌%◌, ◌^◌, ◌<◌, ◌≤◌}
-use native.Mathlib.Nat.{le_of_lt, lt_of_lt_of_le}
-use native.Mathlib.Omega.{arith}
-use mathlib.Core.List.{List}
-use lib.ListN.{take, drop}
+use Rattle.std.proofs.Common.{◌≡◌, sym, ◌∙◌, ap, subst, ℕ, ◌+◌, ◌-◌, ◌*◌, ◌/◌, ◌%◌, ◌^◌, ◌<◌, ◌≤◌, le_of_lt, lt_of_lt_of_le, arith, List, take, drop}
 use Rattle.image.specs.Rows.{start_of, size_of, most_of}
 use Rattle.image.specs.RowLaws.{entry_ends}
 use Rattle.image.specs.Layout.{Held, image_words, image_in}
@@ -43,7 +38,7 @@ bounds-image-low c = omega (arith, inside c.args.table c.args.i _ c.args.image.n
 pub returns-then-top-bottom : goal.returns-then-top-bottom
 returns-then-top-bottom c = let words : Words c.args.image.now = λ k. (c.type_inv.image k).fits in (
   c.cut.ensures.0
-      ∙ ap (λ (x : ℕ). x / 2 ^ (c.args.bottom % 32) % 2 ^ (c.args.top - c.args.bottom + 1)) c.wide.ensures.0
+      ∙ ap (λ (x : ℕ). x / 2 ^ (c.args.bottom % 32) % 2 ^ (c.args.top - c.args.bottom + 1)) c.from.ensures
       ∙ sym
       (field_in_word c.args.image.now c.entry_at.result (size_of c.args.table) c.args.top c.args.bottom words
       (omega arith)
@@ -53,24 +48,24 @@ returns-then-top-bottom c = let words : Words c.args.image.now = λ k. (c.type_i
   c.cut.ensures.1,
 )
 
-pub offset_bounds-image-low-2 : goal.offset_bounds-image-low-2
-offset_bounds-image-low-2 c = omega (arith, inside c.args.table c.args.i _ c.args.image.now c.requires.there c.entry_at.ensures.0)
+pub offset_bounds-image-low-else-top-bottom : goal.offset_bounds-image-low-else-top-bottom
+offset_bounds-image-low-else-top-bottom c = omega (arith, inside c.args.table c.args.i _ c.args.image.now c.requires.there c.entry_at.ensures.0)
 
-pub bounds-image-low-2 : goal.bounds-image-low-2
-bounds-image-low-2 c = omega (arith, inside c.args.table c.args.i _ c.args.image.now c.requires.there c.entry_at.ensures.0, c.requires.there.whole)
+pub bounds-image-low-else-top-bottom : goal.bounds-image-low-else-top-bottom
+bounds-image-low-else-top-bottom c = omega (arith, inside c.args.table c.args.i _ c.args.image.now c.requires.there c.entry_at.ensures.0, c.requires.there.whole)
 
-pub overflow_add-low-2 : goal.overflow_add-low-2
-overflow_add-low-2 c = omega (arith, inside c.args.table c.args.i _ c.args.image.now c.requires.there c.entry_at.ensures.0)
+pub overflow_add-low-else-top-bottom : goal.overflow_add-low-else-top-bottom
+overflow_add-low-else-top-bottom c = omega (arith, inside c.args.table c.args.i _ c.args.image.now c.requires.there c.entry_at.ensures.0)
 
-pub offset_bounds-image-low-3 : goal.offset_bounds-image-low-3
-offset_bounds-image-low-3 c = omega (arith, inside c.args.table c.args.i _ c.args.image.now c.requires.there c.entry_at.ensures.0)
+pub offset_bounds-image-low-else-top-bottom-2 : goal.offset_bounds-image-low-else-top-bottom-2
+offset_bounds-image-low-else-top-bottom-2 c = omega (arith, inside c.args.table c.args.i _ c.args.image.now c.requires.there c.entry_at.ensures.0)
 
-pub bounds-image-low-3 : goal.bounds-image-low-3
-bounds-image-low-3 c = omega (arith, inside c.args.table c.args.i _ c.args.image.now c.requires.there c.entry_at.ensures.0, c.requires.there.whole)
+pub bounds-image-low-else-top-bottom-2 : goal.bounds-image-low-else-top-bottom-2
+bounds-image-low-else-top-bottom-2 c = omega (arith, inside c.args.table c.args.i _ c.args.image.now c.requires.there c.entry_at.ensures.0, c.requires.there.whole)
 
-pub returns : goal.returns
-returns c = let words : Words c.args.image.now = λ k. (c.type_inv.image k).fits in (
-  c.cut-2.ensures.0
+pub returns-else-top-bottom : goal.returns-else-top-bottom
+returns-else-top-bottom c = let words : Words c.args.image.now = λ k. (c.type_inv.image k).fits in (
+  c.cut-else-top-bottom.ensures.0
       ∙ ap (λ (x : ℕ). x / 2 ^ (c.args.bottom % 32) % 2 ^ (c.args.top - c.args.bottom + 1)) c.pair.ensures
       ∙ sym
       (field_in_pair c.args.image.now c.entry_at.result (size_of c.args.table) c.args.top c.args.bottom words
@@ -78,5 +73,5 @@ returns c = let words : Words c.args.image.now = λ k. (c.type_inv.image k).fits
       (omega arith)
       (omega arith))
       ∙ same c.args.table c.args.i c.entry_at.result c.args.image.now c.args.top c.args.bottom c.requires.there c.entry_at.ensures.0,
-  c.cut-2.ensures.1,
+  c.cut-else-top-bottom.ensures.1,
 )

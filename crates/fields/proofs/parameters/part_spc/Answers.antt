@@ -1,7 +1,5 @@
 -- `image::parameters::part_spc`: ten bits, whichever j.
-use mathlib.Core.Path.{subst}
-use Prim.Native.Nat.{ℕ, ◌^◌, ◌<◌}
-use native.Mathlib.Omega.{arith}
+use Rattle.std.proofs.Common.{subst, ℕ, ◌^◌, ◌<◌, arith}
 use Rattle.fields.proofs.parameters.part_spc.Goals as goal
 
 pub returns : goal.returns

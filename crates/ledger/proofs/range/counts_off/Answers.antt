@@ -1,6 +1,6 @@
 -- `ledger::range::counts_off`: the clauses in their order; without frames, whether there is another count.
-use Rattle.std.proofs.Common.{◌≡◌, ℕ, Bool, true, false, cond, ltb, sym, refl, ap, ◌∙◌, zero-le, pos_of_ne-zero, rules, le-ltb}
-use Rattle.laws.specs.Chain.{chain, hit_lt}
+use Rattle.std.proofs.Common.{◌≡◌, ℕ, Bool, not, ne_eqb, true, false, cond, ltb, sym, refl, ap, ◌∙◌, zero-le, pos_of_ne-zero, le-ltb}
+use Rattle.laws.specs.Chain.{hit_lt}
 use Rattle.ledger.specs.Range.{octets_off, counts_off}
 use Rattle.ledger.proofs.range.counts_off.Goals as goal
 
@@ -35,23 +35,9 @@ module _ (frames drops octets dropped : ℕ) (f : frames ≡ 0) where
         both true = refl
         both false = refl
 
-pub returns-then-drops-ne0 : goal.returns-then-drops-ne0
-returns-then-drops-ne0 c = search (rules, with_drops)
-
 pub returns-then-octets-ne0 : goal.returns-then-octets-ne0
-returns-then-octets-ne0 c = search (rules, with_octets)
+returns-then-octets-ne0 c = ap not (ne_eqb c.args.octets 0 c.if-octets-ne0.true)
+    ∙ with_octets c.args.frames c.args.drops c.args.octets c.args.dropped c.if-frames-eq0.true c.if-drops-ne0.false c.if-octets-ne0.true
 
-pub returns-then-frames-eq0 : goal.returns-then-frames-eq0
-returns-then-frames-eq0 c = search (rules, no_octets)
-
-pub returns-then-frames-drops : goal.returns-then-frames-drops
-returns-then-frames-drops c = search chain depth 40
-
-pub returns-then-octets_off : goal.returns-then-octets_off
-returns-then-octets_off c = search chain depth 40
-
-pub returns-then-octets_off-2 : goal.returns-then-octets_off-2
-returns-then-octets_off-2 c = search chain depth 40
-
-pub returns : goal.returns
-returns c = search chain depth 40
+pub returns-else-octets-ne0 : goal.returns-else-octets-ne0
+returns-else-octets-ne0 c = no_octets c.args.frames c.args.drops c.args.octets c.args.dropped c.if-frames-eq0.true c.if-drops-ne0.false c.if-octets-ne0.false

@@ -1,6 +1,4 @@
 -- `ledger::range::unloaded`: 31, then 30.
-use Rattle.std.proofs.Common.{rules}
-use Rattle.image.specs.SoundLaws.{has_room}
 use Rattle.laws.specs.Chain.{flags}
 use Rattle.ledger.specs.Range.{unloaded}
 use Rattle.ledger.proofs.range.unloaded.Goals as goal
@@ -8,10 +6,6 @@ use Rattle.ledger.proofs.range.unloaded.Goals as goal
 pub returns-then-too_short : goal.returns-then-too_short
 unfolding unloaded
 returns-then-too_short c = search flags depth 40
-
-pub not_loaded-requires : goal.not_loaded-requires
-unfolding unloaded
-not_loaded-requires c = search (rules, has_room)
 
 pub returns-then-not_loaded : goal.returns-then-not_loaded
 unfolding unloaded

@@ -1,27 +1,27 @@
--- `enter::enter`: by what steps 1 to 3 answer.
-use mathlib.Core.Path.{sym, ap, subst, ◌∙◌}
+-- `enter::enter`: each step by its answer.
+use Rattle.std.proofs.Common.{ap, refl, arith}
 use Rattle.image.specs.Layout.{image_in}
-use Rattle.frame.specs.Whole.{Whole}
-use Rattle.frame.specs.Laws.{whole}
-use Rattle.plan.specs.Enter.{by_place, by_intake, enter_of}
-use Rattle.plan.specs.LetIn.{Inside}
-use Rattle.plan.specs.EnterLaws.{inside}
+use Rattle.drops.specs.Laws.{not_none}
+use Rattle.plan.specs.Enter.{by_intake, enter_of}
+use Rattle.plan.specs.EnterLaws.{is_absent, is_there, kept_out_is, let_in_is}
+use Rattle.plan.proofs.Laws.{gone_out}
 use Rattle.plan.proofs.enter.enter.Goals as goal
 
-pub place-placed-requires : goal.place-placed-requires
+pub returns-in_err-received : goal.returns-in_err-received
 unfolding enter_of
-place-placed-requires c = c.requires.sound
+returns-in_err-received c = rw (gone_out _ _ c.from_residual.ensures.1) (ap (by_intake (image_in c.args.image.now) c.args.port c.args.frame.now) c.in_err-received.ensures)
 
-pub by_place-requires : goal.by_place-requires
-unfolding enter_of
-by_place-requires c = let h = subst (Whole c.args.frame.now) (sym c.take_in.ensures ∙ c.in-Taken.is) (whole (image_in c.args.image.now) c.args.port c.args.frame.now) in record { sound = c.requires.sound; port_bound = (c.requires.port_bound, h.0); inside = subst (Inside (image_in c.args.image.now)) (sym c.place-placed.ensures) (inside (image_in c.args.image.now) _) }
+pub returns-in_err-place : goal.returns-in_err-place
+returns-in_err-place c = let e = c.in_err-place.ensures in rw (gone_out _ _ c.from_residual-in_err-place.ensures.1) (is_absent _ _ _ _ _ c.in_ok-received.ensures c.place.ensures _ e.value e.ok_part)
 
-pub returns-in-Dropped : goal.returns-in-Dropped
-unfolding enter_of
-returns-in-Dropped c = ap (by_intake (image_in c.args.image.now) c.args.port c.args.frame.now) (sym c.in-Dropped.is ∙ c.take_in.ensures)
+pub mac_at-requires : goal.mac_at-requires
+mac_at-requires c = let h = is_there _ _ _ _ _ c.in_ok-received.ensures c.place.ensures _ c.in_ok-place.ensures.ok_part in omega (arith, h.0)
 
-pub returns-in-Taken : goal.returns-in-Taken
-unfolding enter_of
-returns-in-Taken c = c.by_place.ensures
-    ∙ ap (by_place (image_in c.args.image.now) c.args.port c.args.frame.now c.in-Taken.vlan c.in-Taken.priority c.in-Taken.tagged) c.place-placed.ensures
-    ∙ ap (by_intake (image_in c.args.image.now) c.args.port c.args.frame.now) (sym c.in-Taken.is ∙ c.take_in.ensures)
+pub kept_out-requires-clause-port_bound : goal.kept_out-requires-clause-port_bound
+kept_out-requires-clause-port_bound c = (c.requires.port_bound, (is_there _ _ _ _ _ c.in_ok-received.ensures c.place.ensures _ c.in_ok-place.ensures.ok_part).1)
+
+pub returns-in_err-kept_out : goal.returns-in_err-kept_out
+returns-in_err-kept_out c = rw (gone_out _ _ c.from_residual-in_err-kept_out.ensures.1) (kept_out_is _ _ _ _ _ c.in_ok-received.ensures c.place.ensures _ _ _ c.in_ok-place.ensures.ok_part c.mac_at.ensures c.in_err-kept_out.ensures (not_none _))
+
+pub returns : goal.returns
+returns c = let_in_is _ _ _ _ _ c.in_ok-received.ensures c.place.ensures _ _ _ c.in_ok-place.ensures.ok_part c.mac_at.ensures c.in_ok-kept_out.ensures refl

@@ -1,18 +1,12 @@
 -- `fresh::fresh_row`: the partitions and then the meters that a loop has passed are filled; every other cell is 0.
-use Prim.Native.Nat.{◌+◌, ◌-◌, ◌≤◌}
+use Rattle.std.proofs.Common.{◌+◌}
 use Rattle.image.specs.Layout.{image_in}
-use Rattle.ledger.specs.Row.{units, credit, start, many}
+use Rattle.ledger.specs.Row.{units, credit, start}
 use Rattle.row.specs.Fresh.{fresh_cell, Filling}
 use Rattle.row.proofs.fresh.fresh_row.Given as goal
 
 abbrev pub invariant-loop-j : goal.invariant-loop-j
-invariant-loop-j l = (l.j ≤ many units) × Filling (fresh_cell (image_in l.image)) l.row (start units + l.j)
-
-abbrev pub decreases-loop-j : goal.decreases-loop-j
-decreases-loop-j l = many units - l.j
+invariant-loop-j l = Filling (fresh_cell (image_in l.image)) l.row (start units + l.j)
 
 abbrev pub invariant-loop-k : goal.invariant-loop-k
-invariant-loop-k l = (l.k ≤ l.n) × (l.n ≤ many credit) × Filling (fresh_cell (image_in l.image)) l.row (start credit + l.k)
-
-abbrev pub decreases-loop-k : goal.decreases-loop-k
-decreases-loop-k l = l.n - l.k
+invariant-loop-k l = Filling (fresh_cell (image_in l.image)) l.row (start credit + l.k)

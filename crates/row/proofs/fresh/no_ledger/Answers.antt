@@ -1,5 +1,5 @@
 -- `fresh::no_ledger`: its cells as the definition has them.
-use mathlib.Core.Path.{refl}
+use Rattle.std.proofs.Common.{refl}
 use Rattle.row.specs.Fresh.{no_ledger}
 use Rattle.row.proofs.fresh.no_ledger.Goals as goal
 

@@ -1,17 +1,17 @@
 -- `release::refusal`: what stands before every call, then 36 and 37.
-use Rattle.laws.specs.Chain.{at_zero, not_zero}
-use Rattle.ledger.proofs.Laws.{sound_as}
+use Rattle.std.proofs.Common.{refl}
+use Rattle.laws.specs.Chain.{at_zero}
+use Rattle.ledger.proofs.Laws.{handed_first, sound_as}
 use Rattle.row.specs.Release.{release_refusal}
 use Rattle.row.proofs.release.refusal.Goals as goal
 
-pub returns-then-refused-ne0 : goal.returns-then-refused-ne0
+pub returns-in_err-standing : goal.returns-in_err-standing
 unfolding release_refusal
-returns-then-refused-ne0 c = search not_zero
+returns-in_err-standing c = handed_first _ _ _ _ c.from_residual.ensures.1 c.in_err-standing.ensures
 
 pub unreleased-requires : goal.unreleased-requires
-unfolding release_refusal
-unreleased-requires c = search sound_as
+unreleased-requires c = sound_as _ _ _ c.in_ok-standing.ensures refl
 
 pub returns : goal.returns
 unfolding release_refusal
-returns c = search at_zero
+returns c = at_zero _ _ _ _ _ c.in_ok-standing.ensures refl c.unreleased.ensures

@@ -2,9 +2,6 @@
 use Rattle.laws.specs.Chain.{chain, carried}
 use Rattle.row.proofs.release.unreleased.Goals as goal
 
-pub returns-then-partition-gt7 : goal.returns-then-partition-gt7
-returns-then-partition-gt7 c = search chain depth 40
-
 pub returns-then-part_spc-row : goal.returns-then-part_spc-row
 returns-then-part_spc-row c = search (chain, carried) depth 40
 

@@ -1,6 +1,6 @@
 -- `tile::shares::bits`: a NaN is told before the cast.
-use Rattle.std.proofs.Common.{Bool, cond, not, T, sym, ap, subst}
-use lib.Ieee.{binary64, to_bits}
+use Rattle.std.proofs.Common.{to_bits, Bool, cond, not, T, sym, ap, subst}
+use Rattle.std.specs.Float.Ieee.{binary64}
 use Rattle.tile.specs.Shares.{nan_of, real_of}
 use Rattle.tile.proofs.shares.bits.Goals as goal
 

@@ -1,6 +1,6 @@
 -- `tile::shares::share`: one division.
-use Rattle.std.proofs.Common.{ap, ◌∙◌}
-use lib.Ieee.{Float, binary64, div}
+use Rattle.std.proofs.Common.{Float, ap, ◌∙◌}
+use Rattle.std.specs.Float.Ieee.{binary64, div}
 use Rattle.tile.specs.Tiles.{share_of}
 use Rattle.tile.proofs.shares.share.Goals as goal
 

@@ -1,0 +1,3 @@
+-- The drops and their numbers.
+pub mod Numbers
+pub mod Laws

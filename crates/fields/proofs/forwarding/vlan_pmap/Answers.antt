@@ -1,8 +1,0 @@
--- `image::forwarding::vlan_pmap`: three bits, whichever j.
-use mathlib.Core.Path.{subst}
-use Prim.Native.Nat.{ℕ, ◌^◌, ◌<◌}
-use native.Mathlib.Omega.{arith}
-use Rattle.fields.proofs.forwarding.vlan_pmap.Goals as goal
-
-pub returns : goal.returns
-returns c = (c.field.ensures.0, subst (λ (k : ℕ). c.field.result < 2 ^ k) {y = 3} (omega arith) c.field.ensures.1)

@@ -1,2 +1,0 @@
--- Laws that the proofs of a load state's numbers cite.
-pub mod Laws

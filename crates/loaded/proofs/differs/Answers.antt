@@ -1,9 +1,0 @@
--- `loaded::differs`: the count that was read is the image's.
-use mathlib.Core.Path.{ap}
-use mathlib.Core.Bool.{not}
-use Prim.Native.Nat.{ℕ}
-use lib.Dec.{eqb}
-use Rattle.loaded.proofs.differs.Goals as goal
-
-pub returns : goal.returns
-returns c = ap (λ (x : ℕ). not (eqb x c.args.n)) c.count.ensures.0

@@ -1,2 +1,0 @@
--- What a part of a run leaves.
-pub mod Takes
