@@ -45,7 +45,7 @@ passed buffer t placed due n r e =
 -- ---- what the write leaves
 
 -- 32's test failed: there is a word
-some_word : (n : ℕ) → outside n ≡ false → 0 < n
+pub some_word : (n : ℕ) → outside n ≡ false → 0 < n
 some_word zero h = absurd (true≢false h)
 some_word (suc n) h = zero-lt-suc n
 

@@ -33,12 +33,14 @@ pub fn data_place(image: &[u32], table: Table, placed: usize, due: usize, n: usi
     Some(room.place + placed)
 }
 
-// Words into the image, one behind the other.
+// Words into the image, one behind the other: a loop, since `copy_from_slice` would have the archive for C ask for `memmove` from outside.
 pub fn copy(image: &mut [u32], place: usize, words: &[u32])
     requires { place + length words.now ≤ length image.old }
     ensures { image.new ≡ sets image.old place words.now }
 {
-    image[place..place + words.len()].copy_from_slice(words);
+    for (k, w) in words.iter().enumerate() {
+        image[place + k] = *w;
+    }
 }
 
 // A run of data words, no more than are due, whose sums are known.
