@@ -14,6 +14,7 @@ use image::{IMAGE_WORDS, count, tables};
 use input::fill;
 use std::io;
 use std::io::Write;
+use stream::bytes::word_at;
 use stream::{Phase, states};
 
 fn print_address<W: Write>(out: &mut W, image: &[u32], i: usize) -> io::Result<()>
@@ -179,7 +180,7 @@ fn main(rt: HostRuntime) -> io::Result<()> {
     let mut load = states::fresh();
     let (fours, _) = bytes[..n].as_chunks::<4>();
     for four in fours {
-        let word = u32::from_be_bytes(*four);
+        let word = word_at(four, 0);
         if print_before(&mut out, &image, load.phase, load.second, word)? {
             image = [0u32; IMAGE_WORDS];
             load = states::fresh();

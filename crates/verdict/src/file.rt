@@ -3,6 +3,7 @@ use input::fill;
 use std::io::Read;
 use std::rt::Files;
 use std::{fs, io};
+use stream::bytes::word_at;
 use stream::states::Wrote;
 use stream::{Answer, states};
 
@@ -40,7 +41,7 @@ fn send<R: Read>(file: &mut R, image: &mut [u32]) -> Answer {
     };
     let (fours, _) = bytes[..count].as_chunks::<4>();
     for four in fours {
-        wrote = loader::write(image, wrote.load, &[u32::from_be_bytes(*four)]);
+        wrote = loader::write(image, wrote.load, &[word_at(four, 0)]);
     }
     wrote.answer
 }

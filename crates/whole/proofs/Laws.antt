@@ -1,7 +1,6 @@
 -- Where a whole load begins and how it ends; and bytes, part by part.
 use Rattle.std.proofs.Common.{◌≡◌, refl, sym, ◌∙◌, ap, ap₂, subst, Bool, true, false, List, [], ◌∷◌, ◌++◌, append_assoc, append-nil, ℕ, suc, ◌+◌, ◌*◌, ◌/◌, ◌%◌, ◌<◌, ◌≤◌, arith, lit<, add-zero, length, get_or, set, take, drop, length-drop, get_or-take, get_or-drop, take-suc-set}
 use Rattle.std.proofs.lemmas.List.{drop-drop}
-use Rattle.std.specs.Int.{w32, from_be_bytes}
 use Rattle.std.specs.Simd.{first_chunks}
 use Rattle.crc.proofs.Chunks.{chunk_at}
 use Rattle.image.specs.Layout.{cleared}
@@ -39,17 +38,17 @@ started l b buffer e q = ap (λ (x : Load). at x b) e ∙ ap (λ (x : List ℕ).
 
 -- ---- a whole load of bytes
 -- a piece of four bytes is the word at its place
-word_here : (bytes : List ℕ) (i : ℕ) → from_be_bytes w32 (take 4 (drop i bytes)) ≡ word_at bytes i
+word_here : (bytes : List ℕ) (i : ℕ) → word_at (take 4 (drop i bytes)) 0 ≡ word_at bytes i
 word_here bytes i =
     let in_four = λ (k : ℕ) (h : k < 4). get_or-take 4 (drop i bytes) k 0 h in
     rw (in_four 0 (lit< tt), in_four 1 (lit< tt), in_four 2 (lit< tt), in_four 3 (lit< tt)) (simp (get_or-drop, add-zero) (omega arith))
 
 -- and the k-th of the pieces is the word behind k others
 pub word_in : (bytes : List ℕ) (fours : List (List ℕ)) (k n : ℕ) → fours ≡ first_chunks 4 (length bytes / 4) bytes → length fours ≡ length bytes / 4 → k < length fours
-    → n ≡ from_be_bytes w32 (get_or fours k []) → n ≡ word_at bytes (4 * k)
+    → n ≡ word_at (get_or fours k []) 0 → n ≡ word_at bytes (4 * k)
 word_in bytes fours k n e long h is =
-    is ∙ ap (λ (l : List (List ℕ)). from_be_bytes w32 (get_or l k [])) e
-    ∙ ap (λ (l : List ℕ). from_be_bytes w32 l) (chunk_at 4 (length bytes / 4) bytes k [] (rw long at h))
+    is ∙ ap (λ (l : List (List ℕ)). word_at (get_or l k []) 0) e
+    ∙ ap (λ (l : List ℕ). word_at l 0) (chunk_at 4 (length bytes / 4) bytes k [] (rw long at h))
     ∙ word_here bytes (k * 4)
     ∙ ap (λ (i : ℕ). word_at bytes i) (omega arith)
 

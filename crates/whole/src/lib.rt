@@ -15,6 +15,7 @@ use crc_table::Tables;
 use loader::Runs;
 use placing::refusal::Refusal;
 use quick::ByTables;
+use stream::bytes::word_at;
 use stream::{Answer, Fault, Load, Phase, states};
 
 // 10: the words ended before the end block was complete.
@@ -46,6 +47,16 @@ fn fresh_by<R: Runs>(runs: &R, image: &mut [u32], words: &[u32]) -> Load
     runs.run(image, states::fresh(), words)
 }
 
+// The same, by the long tables. They are made here and nowhere else, so that no other load keeps room for them, or fills it.
+fn fresh_long(image: &mut [u32], words: &[u32]) -> Load
+    requires { image_words ≤ length image.old }
+    ensures { Leaves (run (at fresh (cleared image.old)) words.now) result image.new }
+{
+    let tables = Tables::new();
+    let sums = Long::new(&tables);
+    fresh_by(&ByTables { sums }, image, words)
+}
+
 // The same, by tables. Making the long ones pays from some thousands of words on.
 fn fresh_run(image: &mut [u32], words: &[u32]) -> Load
     requires { image_words ≤ length image.old }
@@ -54,9 +65,7 @@ fn fresh_run(image: &mut [u32], words: &[u32]) -> Load
     if words.len() < 4096 {
         fresh_by(&ByTables { sums: Short }, image, words)
     } else {
-        let tables = Tables::new();
-        let sums = Long::new(&tables);
-        fresh_by(&ByTables { sums }, image, words)
+        fresh_long(image, words)
     }
 }
 
@@ -79,7 +88,7 @@ fn chunk_run(image: &mut [u32], load: Load, bytes: &[u8]) -> Load
     let mut words = [0; 256];
     let (fours, _) = bytes.as_chunks::<4>();
     for (k, four) in fours.iter().enumerate() {
-        words[k] = u32::from_be_bytes(*four);
+        words[k] = word_at(four, 0);
     }
     ByTables { sums: Short }.run(image, load, &words[..fours.len()])
 }

@@ -9,8 +9,8 @@ loop-k-preserved c = let l = c.loop-k in
     let bytes = c.args.bytes.now in
     let fours = c.as_chunks.ensures in
     let more = c.loop-k-test.true in
-    let n = c.from_be_bytes.result in
-    let is = word_in bytes c.as_chunks.result.0.now l.k n fours.front fours.front_len more c.from_be_bytes.ensures in
+    let n = c.word_at.result in
+    let is = word_in bytes c.as_chunks.result.0.now l.k n fours.front fours.front_len more c.word_at.ensures in
     (length-set l.words l.k n ∙ l.invariant.0, chunk_on bytes l.words l.k n (omega (arith, fours.front_len, more)) (omega (arith, fours.front_len, more)) is ∙ l.invariant.1)
 
 pub returns : goal.returns
