@@ -29,9 +29,9 @@ pub fn list_refused<W: Write>(out: &mut W, why: Refusal) -> io::Result<()> {
     writeln!(out, "list refused {n}")
 }
 
-// A drop, of a frame or of a replica.
+// A drop, of a frame or of a replica; `whose` brings its blank, since each piece of a line is a write of its own.
 fn dropped<W: Write>(out: &mut W, whose: &str, record: u64, n: u64) -> io::Result<()> {
-    writeln!(out, "{whose} {record} drop {n}")
+    writeln!(out, "{whose}{record} drop {n}")
 }
 
 // A sending, of a frame or of a replica: ports, VLAN, new priority, tags and the five queues.
@@ -39,17 +39,17 @@ fn sent<W: Write>(out: &mut W, whose: &str, record: u64, numbers: [u64; 9]) -> i
     let [ports, vlan, priority, tags, a, b, c, d, e] = numbers;
     writeln!(
         out,
-        "{whose} {record} sent {ports} vlan {vlan} prio {priority} tags {tags} queues {a} {b} {c} {d} {e}"
+        "{whose}{record} sent {ports} vlan {vlan} prio {priority} tags {tags} queues {a} {b} {c} {d} {e}"
     )
 }
 
 pub fn verdict<W: Write>(out: &mut W, record: u64, v: Verdict) -> io::Result<()> {
     match v {
         Verdict::Refused(n) => refused(out, n),
-        Verdict::Drop(n) => dropped(out, "frame", record, u64::from(n)),
+        Verdict::Drop(n) => dropped(out, "frame ", record, u64::from(n)),
         Verdict::Sent(s) => sent(
             out,
-            "frame",
+            "frame ",
             record,
             [
                 s.ports, s.vlan, s.priority, s.tags, s.queue0, s.queue1, s.queue2, s.queue3,
@@ -65,7 +65,7 @@ fn replica<W: Write>(out: &mut W, record: u64, places: &[u64; PLACES], at: usize
 {
     let head = places[at];
     if head % 4294967296 == 1 {
-        return dropped(out, "replica", record, head >> 32);
+        return dropped(out, "replica ", record, head >> 32);
     }
     let numbers = [
         places[at + 1],
@@ -78,7 +78,7 @@ fn replica<W: Write>(out: &mut W, record: u64, places: &[u64; PLACES], at: usize
         places[at + 8],
         places[at + 9],
     ];
-    sent(out, "replica", record, numbers)
+    sent(out, "replica ", record, numbers)
 }
 
 // The replicas of a frame, right behind it, under its record's number.
