@@ -1,14 +1,15 @@
 -- A search of 05: the match that it holds so far, and what entries without the address have not.
-use Rattle.std.specs.Prelude.{◌≡◌, refl, Bool, true, false, cond, not, List, ℕ, zero, suc, ◌+◌, ◌-◌, ◌%◌, ◌<◌, ◌≤◌, eqb, Option, Some, None}
-use Rattle.std.proofs.Common.{sym, ◌∙◌, ap, subst, true≢false, eq-eqb, ne_eqb, add-one, add-zero, le_refl, arith}
+use Rattle.std.specs.Prelude.{◌≡◌, refl, Bool, true, false, cond, not, List, ℕ, zero, suc, ◌+◌, ◌-◌, ◌%◌, ◌<◌, ◌≤◌, eqb, ltb, Option, Some, None}
+use Rattle.std.proofs.Common.{sym, ◌∙◌, ap, subst, true≢false, eq-eqb, ne_eqb, lt-ltb, le-ltb, add-one, add-zero, le_refl, mod-lt, pow_pos, arith}
 use Rattle.std.proofs.Math.Nat.{le_step}
 use Rattle.laws.specs.Scan.{some_below}
 use Rattle.laws.specs.ScanLaws.{none_at}
 use Rattle.fields.specs.Fields.{macaddr, enfport, destports, shared_learn, address_vlanid, index}
 use Rattle.lookup.specs.Groups.{from}
+use Rattle.lookup.specs.GroupsLaws.{none_more}
 use Rattle.addresses.specs.Address.{holds, like_address, has_address, matches, bars}
-use Rattle.addresses.specs.LeastLaws.{not_this, still_none, first_match, lower, no_lower, least_zero}
-use Rattle.addresses.specs.Leading.{Leading}
+use Rattle.addresses.specs.LeastLaws.{not_this, still_none, first_match, lower, no_lower, least_zero, leads_taken, leads_kept}
+use Rattle.addresses.specs.Leading.{Leading, Kept}
 use Rattle.addresses.specs.declared.Best.{Best}
 
 -- ---- entries that are not like the address
@@ -42,11 +43,22 @@ module _ (image : List ℕ) (vlan mac i r : ℕ) (none : some_below (r - i) (fro
       within : k - i < r - i
       within = omega arith
 
-  pub none_match : matches image vlan mac k ≡ false
-  none_match = no_match image vlan mac k other
+  pub unlike_match : matches image vlan mac k ≡ false
+  unlike_match = no_match image vlan mac k other
 
-  pub none_bar : (port : ℕ) → bars image port vlan mac k ≡ false
-  none_bar port = no_bar image port vlan mac k other
+  pub unlike_bar : (port : ℕ) → bars image port vlan mac k ≡ false
+  unlike_bar port = no_bar image port vlan mac k other
+
+-- ---- entries from i on of which none is like the address
+module _ (image : List ℕ) (vlan mac key i m : ℕ) (is : key ≡ mac % 268435456) (none : some_below m (from i (like_address image key)) ≡ false) where
+  without : (k : ℕ) → like_address image key (i + k) ≡ false → has_address image mac (i + k) ≡ false
+  without k h = no_like image mac (i + k) (subst (λ (x : ℕ). like_address image x (i + k) ≡ false) is h)
+
+  pub none_match : some_below m (from i (matches image vlan mac)) ≡ false
+  none_match = none_more m _ _ (λ k h. no_match image vlan mac (i + k) (without k h)) none
+
+  pub none_bar : (port : ℕ) → some_below m (from i (bars image port vlan mac)) ≡ false
+  none_bar port = none_more m _ _ (λ k h. no_bar image port vlan mac (i + k) (without k h)) none
 
 -- ---- one entry more
 module _ (image : List ℕ) (vlan mac : ℕ) where
@@ -96,3 +108,29 @@ module _ (image : List ℕ) (vlan mac : ℕ) where
 
       further : (k : ℕ) → k < i + m → k < i + suc m
       further k s = omega arith
+
+-- ---- the same while the search is under way
+module _ (image : List ℕ) (vlan mac : ℕ) where
+  -- no INDEX is as high as that of no match
+  small : (i : ℕ) → index image i < 1024
+  small i = mod-lt _ (pow_pos 10)
+
+  -- an entry that does not match
+  pub kept_past : (i : ℕ) (best : Best) → matches image vlan mac i ≡ false → Kept image vlan mac i best → Kept image vlan mac (i + 1) best
+  kept_past i best h e = leads_kept _ _ _ e (small i) refl (ap (λ (t : Bool). cond t (ltb (index image i) best.index) false) h) refl refl
+
+  -- a match with a lower INDEX, or the first
+  pub kept_lower : (i x : ℕ) (best : Best) → matches image vlan mac i ≡ true → x ≡ index image i → x < best.index → Kept image vlan mac i best
+      → Kept image vlan mac (i + 1) (record { entry = i; index = x })
+  kept_lower i x best h q m e =
+      leads_taken _ _ _ x e refl
+      (ap (λ (t : Bool). cond t (ltb (index image i) best.index) false) h ∙ lt-ltb (index image i) best.index (subst (λ (k : ℕ). k < best.index) q m))
+      refl refl q
+
+  -- a match with none lower
+  pub kept_over : (i x : ℕ) (best : Best) → matches image vlan mac i ≡ true → x ≡ index image i → best.index ≤ x → Kept image vlan mac i best
+      → Kept image vlan mac (i + 1) best
+  kept_over i x best h q m e =
+      leads_kept _ _ _ e (small i) refl
+      (ap (λ (t : Bool). cond t (ltb (index image i) best.index) false) h ∙ le-ltb (index image i) best.index (subst (λ (k : ℕ). best.index ≤ k) q m))
+      refl refl

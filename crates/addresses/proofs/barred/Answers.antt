@@ -1,12 +1,12 @@
-use Rattle.std.proofs.Common.{◌≡◌, false, List, ℕ, ◌+◌, ◌-◌, ◌%◌, ◌<◌, ◌≤◌, true, sym, subst, le_antisymm, le_of_lt, zero-le, arith}
+use Rattle.std.proofs.Common.{◌≡◌, false, List, ℕ, ◌+◌, ◌-◌, ◌%◌, ◌<◌, ◌≤◌, true, sym, ◌∙◌, le_of_lt, zero-le, arith}
 use Rattle.laws.specs.Scan.{some_below}
-use Rattle.laws.specs.ScanLaws.{some_none, some_not, some_found, none_all}
+use Rattle.laws.specs.ScanLaws.{some_none, none_all}
 use Rattle.image.specs.Layout.{image_in, count_of}
 use Rattle.image.specs.declared.tables.Table.TheVariants.{AddressLookup}
 use Rattle.lookup.specs.Groups.{from}
-use Rattle.lookup.specs.GroupsLaws.{none_up_to}
+use Rattle.lookup.specs.GroupsLaws.{none_up_to, some_in}
 use Rattle.addresses.specs.Address.{like_address, bars}
-use Rattle.addresses.specs.LeadingLaws.{none_bar}
+use Rattle.addresses.specs.LeadingLaws.{unlike_bar}
 use Rattle.addresses.proofs.barred.Goals as goal
 
 -- none so far, and none of the entries that are passed over
@@ -15,7 +15,7 @@ further : (image : List ℕ) (port vlan mac i r : ℕ) → i ≤ r → some_belo
     → some_below r (bars image port vlan mac) ≡ false
 further image port vlan mac i r l h none =
     none_up_to (bars image port vlan mac) i r l h
-    (none_all (r - i) (from i (bars image port vlan mac)) (λ k m. none_bar image vlan mac i r none (i + k) (from_i k) (before_r k m) port))
+    (none_all (r - i) (from i (bars image port vlan mac)) (λ k m. unlike_bar image vlan mac i r none (i + k) (from_i k) (before_r k m) port))
   where
     from_i : (k : ℕ) → i ≤ i + k
     from_i k = omega arith
@@ -26,35 +26,32 @@ further image port vlan mac i r l h none =
 pub loop-group-init : goal.loop-group-init
 loop-group-init c = (zero-le, some_none _)
 
-pub loop-i-init : goal.loop-i-init
-loop-i-init c = let s = c.new-search.ensures in
+pub returns-then-group_bars : goal.returns-then-group_bars
+returns-then-group_bars c = let t = c.new-search.ensures in
+    let s = c.new-search.result in
     let a = c.args in
-    let none : some_below (c.in-Some.group.start - c.loop-group.passed) (from c.loop-group.passed (like_address (image_in a.image.now) (a.mac % 268435456))) ≡ false =
-    cc (s.0, s.2, c.in-Some.ensures.3) in
-    further (image_in a.image.now) a.port a.vlan a.mac c.loop-group.passed c.in-Some.group.start c.in-Some.ensures.0 c.loop-group.invariant.1 none
-
-pub returns-then-bars : goal.returns-then-bars
-returns-then-bars c = let s = c.new-search in
-    let a = c.args in
-    let here : bars (image_in a.image.now) a.port a.vlan a.mac c.loop-i.i ≡ true = cc (s.ensures.0, s.ensures.1, s.ensures.2, c.bars.ensures, c.if-bars.true) in
-    sym (some_found _ c.loop-i.i _ (omega (arith, c.in-Some.ensures.2, s.ensures.3)) here)
-
-pub loop-i-preserved : goal.loop-i-preserved
-loop-i-preserved c = let s = c.new-search.ensures in
-    let a = c.args in
-    let here : bars (image_in a.image.now) a.port a.vlan a.mac c.loop-i.i ≡ false = cc (s.0, s.1, s.2, c.bars.ensures, c.if-bars.false) in
-    some_not c.loop-i.i _ c.loop-i.invariant here
+    let g = c.in-Some.group in
+    let inside : g.start + (g.end - g.start) ≤ s.len = omega (arith, c.in-Some.ensures.1, c.in-Some.ensures.2) in
+    let there : some_below s.len (bars (image_in s.image.now) a.port s.vlan s.mac) ≡ true =
+    some_in s.len g.start (g.end - g.start) _ inside (sym c.group_bars.ensures ∙ c.if-group_bars.true) in
+    let whole : some_below (count_of (image_in a.image.now) AddressLookup) (bars (image_in a.image.now) a.port a.vlan a.mac) ≡ true =
+    cc (t.0, t.1, t.2, t.3, there) in
+    sym whole
 
 pub loop-group-preserved : goal.loop-group-preserved
-loop-group-preserved c = (
-  c.in-Some.ensures.2,
-  subst (λ (n : ℕ). some_below n (bars (image_in c.args.image.now) c.args.port c.args.vlan c.args.mac) ≡ false) (le_antisymm (c.loop-i.auto.i-end (le_of_lt c.in-Some.ensures.1)) c.loop-i-test.false) c.loop-i.invariant,
-)
+loop-group-preserved c = let s = c.new-search.result in
+    let g = c.in-Some in
+    let before = further (image_in s.image.now) c.args.port s.vlan s.mac c.loop-group.passed g.group.start g.ensures.0 c.loop-group.invariant.1 g.ensures.3 in (
+      g.ensures.2,
+      none_up_to (bars (image_in s.image.now) c.args.port s.vlan s.mac) g.group.start g.group.end (le_of_lt g.ensures.1) before (sym c.group_bars.ensures ∙ c.if-group_bars.false),
+    )
 
 pub returns : goal.returns
-returns c = let s = c.new-search.ensures in
+returns c = let t = c.new-search.ensures in
+    let s = c.new-search.result in
     let a = c.args in
-    let n = count_of (image_in a.image.now) AddressLookup in
-    let none : some_below (n - c.loop-group.passed) (from c.loop-group.passed (like_address (image_in a.image.now) (a.mac % 268435456))) ≡ false =
-    cc (s.0, s.2, s.3, c.in_default.ensures) in
-    sym (further (image_in a.image.now) a.port a.vlan a.mac c.loop-group.passed n (omega (arith, s.3, c.loop-group.invariant.0)) c.loop-group.invariant.1 none)
+    let none : some_below s.len (bars (image_in s.image.now) a.port s.vlan s.mac) ≡ false =
+    further (image_in s.image.now) a.port s.vlan s.mac c.loop-group.passed s.len c.loop-group.invariant.0 c.loop-group.invariant.1 c.in_default.ensures in
+    let whole : some_below (count_of (image_in a.image.now) AddressLookup) (bars (image_in a.image.now) a.port a.vlan a.mac) ≡ false =
+    cc (t.0, t.1, t.2, t.3, none) in
+    sym whole
