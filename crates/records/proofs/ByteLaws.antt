@@ -1,13 +1,15 @@
 -- Laws for the loops over bytes.
-use Rattle.std.proofs.Common.{List, [], ◌∷◌, ◌++◌, ◌≡◌, not, ◌||◌, Bool, ap, ℕ, ◌+◌, ◌-◌, ◌*◌, ◌^◌, ◌<◌, ◌≤◌, eqb, length, get_or, take, drop, ◌∙◌, mul_assoc, pow-suc, lt_of_lt_of_le, arith, lit<, length-append, length-drop, length-take, take-suc, get_or-take, get_or-drop, Fits}
+use Rattle.std.proofs.Common.{List, [], ◌∷◌, ◌++◌, ◌≡◌, not, ◌||◌, Bool, true, ap, ℕ, ◌+◌, ◌-◌, ◌*◌, ◌^◌, ◌<◌, ◌≤◌, eqb, length, get_or, take, drop, ◌∙◌, add-zero, mul_assoc, pow-suc, lt_of_lt_of_le, arith, lit<, length-append, length-drop, length-take, take-suc, get_or-take, get_or-drop, Fits, eq-eqb, ne_eqb}
 use Rattle.std.proofs.Math.Path.{refl, sym}
 use Rattle.std.proofs.Math.Bool.{false}
-use Rattle.std.proofs.Math.Nat.{pow-le-pow_right}
+use Rattle.std.proofs.Math.Nat.{add-suc, pow-le-pow_right}
 use Rattle.std.proofs.Math.Numerals.{add-one}
 use Rattle.std.proofs.Math.ListN.{drop_of_length-le}
+use Rattle.std.proofs.Math.Seq.{drop-cons}
 use Rattle.std.specs.Int.{w64}
 use Rattle.std.specs.List.{list_any, zip}
 use Rattle.records.specs.Bytes.{big, number_at, differ}
+use Rattle.records.specs.Differ.{differ_from}
 
 -- ---- does a byte differ: over the pairs of a byte and the one wanted at its place
 pub differ_pairs : (bytes wanted : List ℕ) → list_any (λ (p : ℕ × ℕ). not (eqb p.0 p.1)) (zip bytes wanted) ≡ differ bytes wanted
@@ -20,6 +22,40 @@ differ_pairs (b ∷ bytes) (w ∷ wanted) = ap (λ (x : Bool). not (eqb b w) || 
 pub differ_none : (list : List ℕ) (at : ℕ) (wanted : List ℕ) → length list ≤ at → false ≡ differ (drop at list) wanted
 unfolding differ
 differ_none list at wanted h = rw (drop_of_length-le list h) refl
+
+-- a difference as a loop over i finds it: what is left of the question after i of them, and each way that the loop goes on or ends
+module _ (list : List ℕ) (at : ℕ) (wanted : List ℕ) where
+  pub differ_start : differ_from list at wanted 0 ≡ differ (drop at list) wanted
+  differ_start = rw add-zero refl
+
+  -- one byte more
+  step : (i : ℕ) → at + i < length list → i < length wanted
+      → differ_from list at wanted i ≡ not (eqb (get_or list (at + i) 0) (get_or wanted i 0)) || differ_from list at wanted (i + 1)
+  unfolding differ
+  step i h k = rw (drop-cons list (at + i) 0 h, drop-cons wanted i 0 k, add-one i, add-suc at i) refl
+
+  module _ (i : ℕ) (left : differ_from list at wanted i ≡ differ (drop at list) wanted) where
+    -- no byte is left in the list
+    pub differ_short : length list ≤ at + i → false ≡ differ (drop at list) wanted
+    unfolding differ
+    differ_short h = rw drop_of_length-le at left
+
+    -- no byte is left that is wanted
+    pub differ_all : length wanted ≤ i → false ≡ differ (drop at list) wanted
+    unfolding differ
+    differ_all h = sym (any (drop (at + i) list)) ∙ (rw (drop_of_length-le wanted h) at left)
+      where
+        any : (xs : List ℕ) → differ xs [] ≡ false
+        any [] = refl
+        any (x ∷ xs) = refl
+
+    pub differ_here : at + i < length list → i < length wanted → (get_or list (at + i) 0 ≡ get_or wanted i 0 → ⊥)
+        → true ≡ differ (drop at list) wanted
+    differ_here h k d = rw (step i h k, ne_eqb (get_or list (at + i) 0) (get_or wanted i 0) d) at left
+
+    pub differ_more : at + i < length list → i < length wanted → get_or list (at + i) 0 ≡ get_or wanted i 0
+        → differ_from list at wanted (i + 1) ≡ differ (drop at list) wanted
+    differ_more h k e = rw (step i h k, eq-eqb (get_or list (at + i) 0) (get_or wanted i 0) e) at left
 
 -- ---- the number that bytes make
 

@@ -6,3 +6,4 @@ pub mod Walk
 pub mod OfK
 pub mod Pins
 pub mod Bytes
+pub mod Differ
