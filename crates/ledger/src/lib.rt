@@ -32,7 +32,7 @@ pub const LAST: usize = DROPPED + PORTS;
 
 pub const CELLS: usize = LAST + 1;
 
-// The row by value: its parts stand one behind the other in one array, as C has it (`TailbowLedger` of include/tailbow.h).
+// The row by value: its parts stand one behind the other in one array, as the eight members of C's `struct tailbow_ledger` do (include/tailbow.h).
 #[derive(Clone, Copy)]
 pub struct Ledger {
     pub cells: [u64; CELLS],
